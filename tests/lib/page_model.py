@@ -170,7 +170,7 @@ class Page:
                 self.changes.append([event, self.label(self.key(event)), f"a {event['kind'].upper()} that could not be read"])
             elif told in ("dm1", "dm2", "dm6"):
                 self.changes.append([event, self.label(self.key(event)), f"{told.upper()}: {self.brief(event)}"])
-            if told not in ("unit", "missed") and event["name"] is None:
+            if told not in ("unit", "missed", "vin") and event["name"] is None:
                 heard.add(self.key(event))
 
     def end_span(self, key, at):
@@ -253,6 +253,10 @@ class Page:
         buses = ", ".join(it["bus"] for it in self.report.get("buses", []) if it["bus"])
         return f"{duration(self.end - self.start)}), {self.report['lines']['all']} lines" + (f", bus {buses}" if buses else "") + "</p>"
 
+    def vins(self):
+        """Those that units told, of which the page has up to three in its head."""
+        return {" ".join(row["vin"].split()) for row in self.report["rows"] if "vin" in row}
+
     def place(self, time):
         """Where a time stands, in percent of the width."""
         return 100 * (time - self.start) / max(1, self.end - self.start)
@@ -330,6 +334,7 @@ class Unit:
     def row(self):
         """Its row of the table: what it is called, then each cell."""
         said = f" {Name(self.row_of['name']).words()}" if self.row_of["name"] else ""
+        said += f" VIN {' '.join(self.row_of['vin'].split())}" if "vin" in self.row_of else ""
         address = self.row_of["address"] if self.row_of["address"] is not None else "not known" if self.presence == "unknown" else "none"
         counts = [str(sum(run["times"] for run in self.row_of[kind])) for kind in ("dm1", "dm2", "dm6")]
         return [self.page.label(self.key) + said, str(address), self.lamps(), self.faults(), self.ever(), *counts]
@@ -412,6 +417,11 @@ def text_of(markup):
 def tight(text):
     """The same text where the page has elements that touch."""
     return re.sub(r" ([;:,.])", r"\1", text)
+
+
+def vins_of(page):
+    """The VINs in its head."""
+    return [text_of(it) for it in re.findall(r'<p class="vin">VIN <b>(.*?)</b></p>', page)]
 
 
 def rows_of(page):

@@ -169,6 +169,21 @@ a change at a time of which it is not told
 a change of another unit than the one of which it is told
 missed frames of each bus
 one more of several buses
+a VIN in one frame
+a VIN by broadcast
+a VIN by session
+a VIN is not told whose address changed hands on the way
+a VIN is broken by a packet that is not the next
+a packet of a VIN comes again as it was asked for
+a VIN without a star
+a VIN of which the front is kept
+a VIN without characters
+a VIN that is not shown
+a unit's first VIN
+a VIN that was told before
+another VIN than before
+a row of an address that nobody claimed and that told a VIN alone
+begun anew with a VIN
 """
 NEVER_LISTENING = """
 a broadcast cannot be read

@@ -4,11 +4,12 @@ use Rattle.std.specs.Prelude.{◌≡◌, ℕ, zero, suc, ◌+◌, ◌-◌, ◌�
 use Rattle.bus_model.specs.Heard.{counted}
 use Rattle.bus_model.specs.OverheardChanged.{change_overheard}
 use Rattle.bus_model.specs.declared.who.Who.{Who}
+use Rattle.can_frame.specs.FrameValue.{FrameValue}
 use Rattle.can_frame.specs.declared.reading.Reading.{Reading}
 use Rattle.can_frame.specs.declared.reading.Reading.TheVariants.{Frame, Gap, Empty}
 use Rattle.candump_line.specs.declared.line.Line.{Line}
 use Rattle.dm_messages.specs.declared.kind.Kind.{Kind}
-use Rattle.listener.specs.ListenerValue.{HasOverheard, ListenerValue}
+use Rattle.listener.specs.ListenerValue.{HasOverheard, ListenerValue, who_in}
 use Rattle.listener.specs.Broken.{half_joined}
 use Rattle.listener.specs.Paced.{PacedValue, half_in}
 use Rattle.bus_model.specs.declared.overheard.Overheard.{Overheard}
@@ -17,9 +18,10 @@ use Rattle.reassembly.specs.declared.pacing.Silence.{Silence}
 use Rattle.transport.specs.declared.control.Control.TheVariants.{Rts, Bam}
 use Rattle.bus_watch.specs.Contested.{contests_after}
 use Rattle.bus_watch.specs.Counted.{partly_after}
-use Rattle.bus_watch.specs.Followed.{Followed, followed_after, reading_by, time_by}
+use Rattle.bus_watch.specs.Followed.{Followed, followed_after, followed_with, frame_reading, reading_by, time_by}
 use Rattle.bus_watch.specs.Runs.{ListsValue, Moment, entries_in, lists_shown, contests_heard, entries_came, kept_heard, newest_time, readings_in, runs_by, runs_under, units_in, units_shown, with_moment}
 use Rattle.bus_watch.specs.Tellings.{is_news, told_heard, told_of}
+use Rattle.bus_watch.specs.Vins.{VinsValue, vins_read}
 use Rattle.bus_watch.specs.declared.change.Changes.{Changes}
 use Rattle.bus_watch.specs.declared.selection.Selection.{Selection}
 
@@ -28,7 +30,7 @@ pub record CountsBefore : Type 0 where
   pub missed : ℕ
   pub unread : ℕ
 
--- those; the messages that were read in part; those that were broken; and between how many pairs of addresses messages were announced
+-- those; the messages that were read in part; those that were broken; between how many pairs of addresses messages were announced; and the VINs
 pub record WatchValue : Type 0 where
   pub listener : ListenerValue
   pub lists : ListsValue
@@ -38,6 +40,7 @@ pub record WatchValue : Type 0 where
   pub partly : ℕ
   pub broken : ℕ
   pub pairs : ℕ
+  pub vins : VinsValue
 
 -- its listener as it looks at times
 abbrev pub ear_of : WatchValue → PacedValue
@@ -131,6 +134,13 @@ pub record Takes (old new : WatchValue) (reading : Reading) (time : Option ℕ) 
   pub stands : (b : Beginning) (h : List Moment) → StandsInRuns b old h → StandsInRuns b new (with_moment reading time h)
   pub followed : new.followed ≡ known
 
+-- a frame is taken that says this and comes at this time, and what is told is of what it changed
+abbrev pub TakesGroup : WatchValue → WatchValue → Group → Option ℕ → Type 0
+TakesGroup old new g time = (f : FrameValue) → group_of f ≡ g → Takes old new (frame_reading time (half_in old.listener) old.followed f) time (followed_with time g old.followed)
+
+abbrev pub TellsGroup : WatchValue → WatchValue → Group → Option ℕ → Changes → Type 0
+TellsGroup old new g time told = (f : FrameValue) → group_of f ≡ g → Tells old new (frame_reading time (half_in old.listener) old.followed f) told
+
 -- the reading that a line is is taken, and it is known of the bus what the line says
 abbrev pub HearsLine : WatchValue → WatchValue → Line → Type 0
 HearsLine old new line = Takes old new (reading_by (half_in old.listener) old.followed line) (time_by old.followed line) (followed_after old.followed line)
@@ -138,3 +148,7 @@ HearsLine old new line = Takes old new (reading_by (half_in old.listener) old.fo
 -- and what is told is of what that reading changed
 abbrev pub TellsLine : WatchValue → WatchValue → Line → Changes → Type 0
 TellsLine old new line told = Tells old new (reading_by (half_in old.listener) old.followed line) told
+
+-- the VINs after a line
+abbrev pub vins_in : WatchValue → Line → VinsValue
+vins_in w line = vins_read w.lists.selection w.lists.time w.followed (who_in w.listener) line w.vins

@@ -161,7 +161,7 @@ impl Buses {
         ensures err { OnErr result (self.new ≡ self.old) }
     {
         self.watches.reserve(1)?;
-        let watch = Watch::new(alloc, self.settings, followed)?;
+        let watch = Watch::open(alloc, self.settings, followed)?;
         let changes = nothing();
         self.watches.push_reserved(BusWatch {
             bus,

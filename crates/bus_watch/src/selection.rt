@@ -1,6 +1,7 @@
 ghost use Rattle.std.specs.Prelude.{◌≡◌};
 ghost use Rattle.bus_watch.specs.Runs as runs;
 ghost use Rattle.bus_watch.specs.Tellings as tellings;
+ghost use Rattle.bus_watch.specs.Vins.{is_vin_shown};
 
 use crate::broken::BrokenMessage;
 use crate::methods::UnitMethods;
@@ -43,6 +44,16 @@ impl Selection {
         self.shows_of(&entry.who)
             && self.shows_to(entry.to)
             && self.shows_unit(&entry.who, entry.source)
+            && self.shows_at(time)
+    }
+
+    /// Whether a VIN of this unit is shown that went from this source to this address, and came at this time: where an entry would be.
+    pub(crate) fn shows_vin(&self, who: &Who, source: u8, to: u8, time: Option<Time>) -> bool
+        ensures { result ≡ is_vin_shown self.now time who.now source to }
+    {
+        self.shows_of(who)
+            && self.shows_to(to)
+            && self.shows_unit(who, source)
             && self.shows_at(time)
     }
 
@@ -171,7 +182,7 @@ impl Selection {
     }
 }
 
-fn is_named(name: &Name, who: &Who) -> bool
+pub(crate) fn is_named(name: &Name, who: &Who) -> bool
     ensures { result ≡ runs.is_of_name name.now who.now }
 {
     match who {

@@ -6,6 +6,7 @@ ghost use Rattle.bus_watch.specs.Runs.{entries_came, kept_heard, lists_shown, ne
 ghost use Rattle.bus_watch.specs.Tellings.{none_told};
 ghost use Rattle.bus_watch.specs.WatchValue.{announcements_in};
 ghost use Rattle.bus_watch.specs.Told.{Beginning, StandsForAll, Told, all_said, readings_said};
+ghost use Rattle.bus_watch.specs.Vins.{no_vins};
 ghost use Rattle.entry_lists.specs.KnownRows.{row_heard_as};
 ghost use Rattle.listener.specs.ListenerSteps.{new_listener};
 ghost use Rattle.listener.specs.ListenerValue.{HasOverheard, gaps_alone};
@@ -19,6 +20,7 @@ use crate::pairs::Pairs;
 use crate::run::EntryRun;
 use crate::selection::Selection;
 use crate::unowned::Unowned;
+use crate::vins::Vins;
 use candump_line::Time;
 use dm_messages::Kind;
 use entry_lists::Row;
@@ -31,6 +33,7 @@ mod changes;
 mod over;
 mod parts;
 mod readings;
+mod vins;
 
 /// How a bus is watched.
 #[derive(Clone, Copy)]
@@ -55,9 +58,10 @@ pub struct Watch {
     pairs: Pairs,
     broken: Broken,
     before: Before,
+    vins: Vins,
 }
 
-/// Seen as its listener, the lists that it fills, what it knows of the bus that it follows, what it told once, and what it counts.
+/// Seen as its listener, the lists that it fills, what it knows of the bus that it follows, what it told once, what it counts, and the VINs.
 impl Model for Watch {
     ghost use Rattle.std.specs.Prelude.{option_map, string_bytes};
     ghost use Rattle.bus_watch.specs.WatchValue.{WatchValue};
@@ -78,12 +82,12 @@ impl Model for Watch {
       partly = w.counts.partly;
       broken = w.broken.messages.count;
       pairs = w.pairs.count;
+      vins = w.vins;
     } };
 }
 
 impl Watch {
     /// A watch that has read nothing, of the bus of this name, or of the first that a line names.
-    #[tactic(auto, using(crate::proofs::Steps::opened))]
     pub fn new(
         alloc: Global,
         settings: WatchSettings,
@@ -99,6 +103,28 @@ impl Watch {
           before = record { missed = 0; unread = 0 };
           partly = 0;
         }) [] w) }
+    {
+        Watch::open(alloc, settings, bus)
+    }
+
+    /// The same, which has read no VIN either.
+    #[tactic(auto, using(crate::proofs::Steps::opened))]
+    pub(crate) fn open(
+        alloc: Global,
+        settings: WatchSettings,
+        bus: Option<&str>,
+    ) -> Result<Watch, AllocError>
+        ensures stands { IfOk result (λ w. StandsForAll (record {
+          selection = settings.selection;
+          skips_bad = settings.skips_bad;
+          silence = settings.silence;
+          bus = option_map (λ name. name.now) bus.entry;
+          contests = no_contests;
+          gaps = 0;
+          before = record { missed = 0; unread = 0 };
+          partly = 0;
+        }) [] w) }
+        ensures vins { IfOk result (λ w. w.vins ≡ no_vins) }
     {
         Watch::after_gaps(alloc, settings, bus, 0)
     }
@@ -119,6 +145,7 @@ impl Watch {
           partly = 0;
           broken = 0;
           pairs = 0;
+          vins = no_vins;
         }) }
         ensures heard { IfOk result (λ w. HasOverheard w.listener (gaps_alone gaps)) }
     {
@@ -128,6 +155,7 @@ impl Watch {
         };
         let pairs = Pairs::new(alloc)?;
         let ear = PacedListener::after_gaps(alloc, settings.silence, gaps)?;
+        let vins = Vins::new(alloc)?;
         Ok(Watch {
             settings,
             ear,
@@ -138,6 +166,7 @@ impl Watch {
             pairs,
             broken: Broken::new(alloc, 0),
             before: Before::default(),
+            vins,
         })
     }
 

@@ -61,7 +61,8 @@ watch_shape = subcommand_shape (codes "watch")
     (value_rule (codes "bus") ∷ value_rule (codes "address") ∷ value_rule (codes "name")
     ∷ list_rule (codes "assume") ∷ list_rule (codes "conversion") ∷ value_rule (codes "bad") ∷ value_rule (codes "silence")
     ∷ value_rule (codes "unclaimed") ∷ value_rule (codes "most") ∷ value_rule (codes "keep") ∷ value_rule (codes "unit") ∷ value_rule (codes "from") ∷ value_rule (codes "to")
-    ∷ value_rule (codes "format") ∷ value_rule (codes "units") ∷ value_rule (codes "texts") ∷ value_rule (codes "clock") ∷ flag_rule (codes "strict") ∷ place_rule (codes "file") ∷ [])
+    ∷ value_rule (codes "format") ∷ value_rule (codes "units") ∷ value_rule (codes "texts")
+    ∷ value_rule (codes "signals") ∷ value_rule (codes "since") ∷ value_rule (codes "clock") ∷ flag_rule (codes "strict") ∷ place_rule (codes "file") ∷ [])
 
 abbrev pub log_shape : Shape
 log_shape = subcommand_shape (codes "log") (value_rule (codes "bus") ∷ value_rule (codes "period") ∷ [])

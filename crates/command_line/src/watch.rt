@@ -44,7 +44,7 @@ or it is told of none (what was there is told, and what converts it), or more wa
 }
 
 /// Its options.
-const OPTIONS: [CommandOption<'static>; 19] = [
+const OPTIONS: [CommandOption<'static>; 21] = [
     CommandOption {
         name: "bus",
         value: "BUS",
@@ -142,6 +142,18 @@ const OPTIONS: [CommandOption<'static>; 19] = [
         given: Given::Once,
     },
     CommandOption {
+        name: "signals",
+        value: "FILE",
+        help: "A DBC file, of whose signals the newest, least and greatest values are told",
+        given: Given::Once,
+    },
+    CommandOption {
+        name: "since",
+        value: "FILE",
+        help: "The JSON report of an earlier visit: which codes are new, gone, or came back since",
+        given: Given::Once,
+    },
+    CommandOption {
         name: "clock",
         value: "CLOCK",
         help: "Tells times by log, utc, local, +02:00, relative [log; on the page utc where they count from 1970]",
@@ -211,6 +223,8 @@ fn words<'a>(found: &ArgMatches<'a>) -> WatchArguments<'a> {
         format: found.get_str("format"),
         units: found.get_str("units"),
         texts: found.get_str("texts"),
+        signals: found.get_str("signals"),
+        since: found.get_str("since"),
         clock: found.get_str("clock"),
         strict: found.get_flag("strict"),
         file: found.get_str("file"),

@@ -66,10 +66,13 @@ fn watch<R: Runtime + AllocGlobal>(
     line_commands::look_at_watch_words(rt, &request)?;
     let units = read_texts(rt, words.units)?;
     let texts = read_texts(rt, words.texts)?;
+    let signals = read_texts(rt, words.signals)?;
+    let since = read_texts(rt, words.since)?;
     let files = ShopFiles {
         units: named(words.units, &units),
         texts: named(words.texts, &texts),
-        signals: None,
+        signals: named(words.signals, &signals),
+        since: named(words.since, &since),
     };
     watch_with(rt, request, files, is_terminal)
 }
@@ -168,6 +171,7 @@ fn decode<R: Runtime + AllocGlobal>(
         units: named(words.units, &units),
         texts: named(words.texts, &texts),
         signals: named(words.signals, &signals),
+        since: None,
     };
     decode_with(rt, words, files, is_terminal)
 }

@@ -1,7 +1,9 @@
+use picture::EarlierVisit;
 use program_io::{Failure, Fault};
 use shop_texts::{SheetFault, Texts, UnitTexts};
 use signal_values::Signals;
 use std::alloc::Global;
+use watch_lines::read_visit;
 
 /// What the files of a shop hold, each none where it is not given.
 #[derive(Clone, Copy)]
@@ -12,6 +14,8 @@ pub struct ShopFiles<'a> {
     pub texts: Option<&'a [u8]>,
     /// The signals of groups, as a DBC file.
     pub signals: Option<&'a [u8]>,
+    /// The report of an earlier visit.
+    pub since: Option<&'a [u8]>,
 }
 
 /// A shop's texts, and the signals that it knows.
@@ -20,6 +24,7 @@ pub(crate) struct ShopTexts {
     pub(crate) units: UnitTexts,
     pub(crate) texts: Texts,
     pub(crate) signals: Signals,
+    pub(crate) since: Option<EarlierVisit>,
 }
 
 impl ShopTexts {
@@ -33,7 +38,24 @@ impl ShopTexts {
             units: units_of(alloc, files.units)?,
             texts: texts_of(alloc, files.texts)?,
             signals: signals_of(alloc, files.signals)?,
+            since: visit_of(alloc, files.since)?,
         })
+    }
+
+    /// The earlier visit, where its report is given.
+    pub(crate) fn since(&self) -> Option<&EarlierVisit> {
+        match &self.since {
+            Some(visit) => Some(visit),
+            None => None,
+        }
+    }
+
+    /// The signals whose values are kept, where a file of them is named.
+    pub(crate) fn watched_signals(&self, file: Option<&str>) -> Option<&Signals> {
+        match file {
+            Some(_) => Some(&self.signals),
+            None => None,
+        }
     }
 }
 
@@ -56,6 +78,18 @@ fn signals_of(alloc: Global, file: Option<&[u8]>) -> Result<Signals, Failure> {
     };
     match Signals::read(alloc, text) {
         Ok(signals) => Ok(signals),
+        Err(SheetFault::Refused(words)) => Err(Failure::told(Fault::Texts, Ok(words))),
+        Err(SheetFault::Memory) => Err(Failure::from(Fault::Memory)),
+    }
+}
+
+/// The earlier visit of which a file has the report; none where there is no file.
+fn visit_of(alloc: Global, file: Option<&[u8]>) -> Result<Option<EarlierVisit>, Failure> {
+    let Some(report) = file else {
+        return Ok(None);
+    };
+    match read_visit(alloc, report) {
+        Ok(visit) => Ok(Some(visit)),
         Err(SheetFault::Refused(words)) => Err(Failure::told(Fault::Texts, Ok(words))),
         Err(SheetFault::Memory) => Err(Failure::from(Fault::Memory)),
     }

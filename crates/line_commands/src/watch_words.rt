@@ -45,6 +45,8 @@ pub(crate) fn options_of<'a>(
         title: title_of(words.file),
         units: &shop.units,
         texts: &shop.texts,
+        signals: shop.watched_signals(words.signals),
+        since: shop.since(),
         clock,
         strict: words.strict,
     })

@@ -4,3 +4,4 @@ pub mod Remembering
 pub mod Appearing
 pub mod KeepingCodes
 pub mod Going
+pub mod Ranging

@@ -2,3 +2,4 @@ pub mod Spans
 pub mod Tracks
 pub mod Histories
 pub mod Ever
+pub mod ValuesTold

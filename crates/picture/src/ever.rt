@@ -34,6 +34,7 @@ pub struct EverCode {
 /// What a unit told by messages of one kind at any time of the log, and not only by the newest.
 #[derive(Drop)]
 pub struct Ever {
+    is_heard: bool,
     last_heard: Option<Time>,
     newest: Severity,
     lamps: EverLamps,
@@ -45,12 +46,18 @@ impl Ever {
     /// No message was heard.
     pub fn new(alloc: Global) -> Ever {
         Ever {
+            is_heard: false,
             last_heard: None,
             newest: Severity::Fine,
             lamps: EverLamps::never(),
             codes: Vec::new(alloc),
             more: 0,
         }
+    }
+
+    /// Whether a message of the kind was heard.
+    pub fn is_heard(&self) -> bool {
+        self.is_heard
     }
 
     /// When a message of the kind was last heard, where its line has a time.
@@ -112,6 +119,7 @@ impl Ever {
     ) -> Result<(), AllocError>
         ensures { OnOk result ((told : List ToldMessage) → TellsEver told self.old → TellsEver (told_at lamps codes.now time.now ∷ told) self.new) }
     {
+        self.is_heard = true;
         self.last_heard = *time;
         self.newest = Severity::of(lamps, codes.len(), false);
         self.lamps.hear(lamps, time);

@@ -27,15 +27,15 @@ pub const SILENCE: u64 = 5_000_000;
 #[derive(Drop)]
 pub struct EverInLog {
     alloc: Global,
-    units: BTreeMap<DrawnUnit, UnitEver>,
+    pub(crate) units: BTreeMap<DrawnUnit, UnitEver>,
     end: Option<Time>,
     left_out: u64,
 }
 
 /// What a unit told by each kind that is kept.
 #[derive(Drop)]
-struct UnitEver {
-    dm1: Ever,
+pub(crate) struct UnitEver {
+    pub(crate) dm1: Ever,
     dm6: Ever,
 }
 

@@ -91,6 +91,10 @@ pub struct WatchArguments<'a> {
     pub units: Option<&'a str>,
     /// A file of texts for SPNs and FMIs.
     pub texts: Option<&'a str>,
+    /// A DBC file of signals, whose values are kept.
+    pub signals: Option<&'a str>,
+    /// The report of an earlier visit, in JSON.
+    pub since: Option<&'a str>,
     /// How times are told to people: `utc`, `log` or `relative`.
     pub clock: Option<&'a str>,
     /// Whether the first bad line ends the run.

@@ -2,9 +2,10 @@ use crate::kept::PageHistory;
 use crate::options::WatchOptions;
 use bus_watch::Buses;
 use log_lines::LogFault;
+use picture::{EarlierVisit, SinceThen};
 use std::alloc::{AllocError, Global};
 use std::io::Write;
-use watch_reports::{ReportOptions, ReportPart, write_report};
+use watch_reports::{ReportOptions, ReportPart, Reported, write_report};
 
 /// What was heard: the watches of the buses, and what is kept beside them.
 #[derive(Drop)]
@@ -20,13 +21,33 @@ impl Heard {
     /// Memory was refused.
     pub(crate) fn new(alloc: Global, options: &WatchOptions<'_>) -> Result<Heard, AllocError> {
         let buses = Buses::new(alloc, options.settings, options.bus);
-        let kept = PageHistory::new(alloc, options.form, options.settings.selection.to);
+        let kept = PageHistory::new(
+            alloc,
+            options.form,
+            options.settings.selection.to,
+            options.signals.is_some(),
+        );
         of_both(buses, kept)
     }
 
     /// Until when each newest message was heard is told before a report.
     pub(crate) fn settle(&mut self) {
         self.kept.settle(&self.buses);
+    }
+
+    /// What changed since an earlier visit, where one is given.
+    ///
+    /// # Errors
+    /// Memory was refused.
+    pub(crate) fn since(
+        &self,
+        alloc: Global,
+        visit: Option<&EarlierVisit>,
+    ) -> Result<Option<Vec<SinceThen>>, AllocError> {
+        match visit {
+            Some(visit) => Ok(Some(visit.changes(alloc, self.kept.ever())?)),
+            None => Ok(None),
+        }
     }
 
     /// Before the line of this number each bus is begun anew: what is to be kept until then is.
@@ -48,7 +69,7 @@ impl Heard {
         Ok(())
     }
 
-    /// Reports what was heard so far.
+    /// Reports what was heard so far, and what changed since an earlier visit.
     ///
     /// # Errors
     /// A write failed.
@@ -57,15 +78,16 @@ impl Heard {
         writer: &mut W,
         options: &ReportOptions<'_>,
         part: ReportPart,
+        since: Option<&[SinceThen]>,
     ) -> Result<(), LogFault> {
-        write_report(
-            writer,
-            &self.buses,
-            self.kept.ever(),
-            self.kept.start(),
-            options,
-            part,
-        )
+        let told = Reported {
+            buses: &self.buses,
+            ever: self.kept.ever(),
+            values: self.kept.values(options.signals),
+            since,
+            start: self.kept.start(),
+        };
+        write_report(writer, &told, options, part)
     }
 }
 

@@ -1,11 +1,12 @@
 use crate::heard::Heard;
 use crate::kept::PageHistory;
+use crate::values::{hear_values, mark_values};
 use bus_watch::{BusWatch, Hearers};
 use candump_line::Line;
 use log_lines::LogFault;
 use std::alloc::Global;
 use std::io::Write;
-use watch_reports::{Assumed, ReportOptions, write_broken, write_changes};
+use watch_reports::{Assumed, ReportOptions, write_broken, write_changes, write_vin};
 
 /// Has the watches hear the line of this number, and writes what that changes. Where it is the first of its bus, the assumed owners
 /// come before it.
@@ -21,7 +22,11 @@ pub(crate) fn hear_line<W: Write>(
     if !options.assumed.is_empty() {
         begin_bus(alloc, writer, heard, options, line)?;
     }
-    match heard.buses.hear(alloc, line)? {
+    let hearers = match options.signals {
+        Some(signals) => hear_values(alloc, heard, signals, line)?,
+        None => heard.buses.hear(alloc, line)?,
+    };
+    match hearers {
         Hearers::Nobody => Ok(()),
         Hearers::One(place) | Hearers::New(place) => tell_at(writer, heard, place, options, number),
         Hearers::Every => tell_each(writer, heard, options, number),
@@ -74,7 +79,10 @@ fn tell_at<W: Write>(
 
 /// Whether the newest line changed anything of a bus.
 fn has_news(one: &BusWatch) -> bool {
-    one.changes.lost.is_some() || one.changes.change.is_some() || !one.watch.broken().is_empty()
+    one.changes.lost.is_some()
+        || one.changes.change.is_some()
+        || !one.watch.broken().is_empty()
+        || one.watch.vin_told().is_some()
 }
 
 /// Writes and keeps what the line of this number changed of a bus.
@@ -90,6 +98,12 @@ fn tell<W: Write>(
     write_changes(writer, one, options, kept.start(), number, &one.changes)?;
     if !one.watch.broken().is_empty() {
         write_broken(writer, one, options, kept.start(), number)?;
+    }
+    if one.watch.vin_told().is_some() {
+        write_vin(writer, one, options, kept.start(), number)?;
+    }
+    if let Some(signals) = options.signals {
+        mark_values(kept, signals, place, one)?;
     }
     kept.tell(place, one)
 }

@@ -4,23 +4,27 @@ use bus_watch::{BusWatch, Buses, EntryRun, Watch, WatchChange, Who};
 use candump_line::{Line, Time};
 use dm_messages::Kind;
 use log_lines::LogFault;
-use picture::{Brief, DrawnUnit, EverInLog, Occurrence, Picture, RunEnd};
+use picture::{
+    Brief, DrawnUnit, EverInLog, Occurrence, Picture, RunEnd, SignalsInLog, ValuesInLog,
+};
+use signal_values::Signals;
 use std::alloc::{AllocError, Global};
 use watch_reports::{KINDS, WatchForm};
 
-/// What is kept beside the watches while lines are read: when the first of them was, what units told at any time, and for a page its
-/// picture.
+/// What is kept beside the watches while lines are read: when the first of them was, what units told at any time, the values of signals
+/// where those are asked for, and for a page its picture.
 #[derive(Drop)]
 pub(crate) struct PageHistory {
     start: Option<Time>,
     last_shown: Option<Time>,
     ever: EverInLog,
+    values: Option<ValuesInLog>,
     picture: Option<Picture>,
     anew_at: Option<u64>,
 }
 
 impl PageHistory {
-    /// Nothing yet, in this form. It is told of lines up to this time, where there is one.
+    /// Nothing yet, in this form, with values of signals or not. It is told of lines up to this time, where there is one.
     ///
     /// # Errors
     /// Memory was refused.
@@ -28,6 +32,7 @@ impl PageHistory {
         alloc: Global,
         form: WatchForm,
         last_shown: Option<Time>,
+        has_values: bool,
     ) -> Result<PageHistory, AllocError> {
         let picture = match form {
             WatchForm::Html => Some(Picture::new(alloc)?),
@@ -37,6 +42,11 @@ impl PageHistory {
             start: None,
             last_shown,
             ever: EverInLog::new(alloc),
+            values: if has_values {
+                Some(ValuesInLog::new(alloc, form == WatchForm::Html))
+            } else {
+                None
+            },
             picture,
             anew_at: None,
         })
@@ -58,6 +68,22 @@ impl PageHistory {
     /// What units told at any time, until now where `settle` was called.
     pub(crate) fn ever(&self) -> &EverInLog {
         &self.ever
+    }
+
+    /// The values of these signals, where they are kept.
+    pub(crate) fn values<'a>(&'a self, signals: Option<&'a Signals>) -> Option<SignalsInLog<'a>> {
+        match (signals, &self.values) {
+            (Some(signals), Some(values)) => Some(SignalsInLog { signals, values }),
+            _ => None,
+        }
+    }
+
+    /// The same, to be changed.
+    pub(crate) fn values_mut(&mut self) -> Option<&mut ValuesInLog> {
+        match &mut self.values {
+            Some(values) => Some(values),
+            None => None,
+        }
     }
 
     /// The line of this number is read.

@@ -13,7 +13,8 @@ mod over;
 mod page;
 mod run;
 mod units;
+mod values;
 
 pub use options::WatchOptions;
 pub use run::{Watched, watch};
-pub use watch_reports::{Assumed, WatchForm};
+pub use watch_reports::{Assumed, WatchForm, read_visit};

@@ -6,6 +6,7 @@ use crate::page::write_page;
 use crate::run::Watched;
 use candump_line::{Line, read_line};
 use log_lines::{Absence, LineClock, LinesEnd, LogFault, Notices, next_line};
+use picture::SinceThen;
 use std::alloc::Global;
 use std::io::{BufReader, Read, Write};
 use watch_reports::{ReportPart, WatchForm};
@@ -136,21 +137,39 @@ impl<'a, W: Write, E: Write> LineWatch<'a, W, E> {
     /// Writes the report, and what is still to be written.
     fn write_out(&mut self) -> Result<(), LogFault> {
         self.heard.settle();
-        match self.options.reports.form {
-            WatchForm::Html => write_page(self.writer, self.alloc, self.heard, self.options)?,
-            _ => self.write_report(ReportPart::Last {
-                is_all: !self.is_anew,
-            })?,
-        }
+        let since = self.heard.since(self.alloc, self.options.since)?;
+        self.write_last(slice_of(&since))?;
         match self.writer.flush() {
             Ok(()) => Ok(()),
             Err(_) => Err(LogFault::Write),
         }
     }
 
-    /// Reports what was heard so far.
+    /// Writes the last report, or the page.
+    fn write_last(&mut self, since: Option<&[SinceThen]>) -> Result<(), LogFault> {
+        let options = &self.options.reports;
+        match options.form {
+            WatchForm::Html => write_page(self.writer, self.alloc, self.heard, self.options, since),
+            _ => {
+                let part = ReportPart::Last {
+                    is_all: !self.is_anew,
+                };
+                self.heard.write_report(self.writer, options, part, since)
+            }
+        }
+    }
+
+    /// Reports what was heard so far, and goes on.
     pub(crate) fn write_report(&mut self, part: ReportPart) -> Result<(), LogFault> {
         let options = &self.options.reports;
-        self.heard.write_report(self.writer, options, part)
+        self.heard.write_report(self.writer, options, part, None)
+    }
+}
+
+/// The changes, lent.
+fn slice_of(since: &Option<Vec<SinceThen>>) -> Option<&[SinceThen]> {
+    match since {
+        Some(since) => Some(since.as_slice()),
+        None => None,
     }
 }

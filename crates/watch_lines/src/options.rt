@@ -1,7 +1,9 @@
 use bus_watch::{BusShown, Limits, WatchSettings};
 use candump_line::Time;
 use log_lines::ClockForm;
+use picture::EarlierVisit;
 use shop_texts::{Texts, UnitTexts};
+use signal_values::Signals;
 use watch_reports::{Assumed, ReportOptions, WatchForm};
 
 /// How a log or a live bus is watched.
@@ -22,6 +24,10 @@ pub struct WatchOptions<'a> {
     /// A shop's texts for units, and for codes.
     pub units: &'a UnitTexts,
     pub texts: &'a Texts,
+    /// The signals whose values are kept, where any are.
+    pub signals: Option<&'a Signals>,
+    /// The earlier visit with which it is compared, where one is given.
+    pub since: Option<&'a EarlierVisit>,
     /// How times are told to people; where that is not said, in text as the log has them, and on a page by UTC where they count
     /// from the start of 1970, else since the first.
     pub clock: Option<ClockForm<'a>>,
@@ -37,6 +43,7 @@ impl<'a> WatchOptions<'a> {
             assumed: self.assumed,
             units: self.units,
             texts: self.texts,
+            signals: self.signals,
             clock: self.clock,
         }
     }
@@ -47,6 +54,7 @@ impl<'a> WatchOptions<'a> {
             reports: self.reports(),
             limits: self.limits,
             bus: self.bus,
+            since: self.since,
             from: self.settings.selection.from,
             to: self.settings.selection.to,
             title: self.title,
@@ -62,6 +70,7 @@ pub(crate) struct RunOptions<'a> {
     pub(crate) limits: Limits,
     /// Which buses are watched, and of which times it is told.
     pub(crate) bus: BusShown<'a>,
+    pub(crate) since: Option<&'a EarlierVisit>,
     pub(crate) from: Option<Time>,
     pub(crate) to: Option<Time>,
     pub(crate) title: &'a str,

@@ -1,6 +1,7 @@
 use crate::heard::Heard;
 use crate::options::RunOptions;
 use log_lines::{ClockForm, LogFault};
+use picture::SinceThen;
 use std::alloc::Global;
 use std::io::Write;
 use watch_page::{PageFault, View};
@@ -11,9 +12,10 @@ pub(crate) fn write_page<W: Write>(
     alloc: Global,
     heard: &mut Heard,
     options: &RunOptions<'_>,
+    since: Option<&[SinceThen]>,
 ) -> Result<(), LogFault> {
     heard.kept.finish(&heard.buses)?;
-    write_finished(writer, alloc, heard, options)
+    write_finished(writer, alloc, heard, options, since)
 }
 
 /// Writes the page of a picture that is finished.
@@ -22,6 +24,7 @@ fn write_finished<W: Write>(
     alloc: Global,
     heard: &Heard,
     options: &RunOptions<'_>,
+    since: Option<&[SinceThen]>,
 ) -> Result<(), LogFault> {
     let Some(picture) = heard.kept.picture() else {
         return Ok(());
@@ -32,6 +35,8 @@ fn write_finished<W: Write>(
         title: options.title,
         picture,
         ever: heard.kept.ever(),
+        values: heard.kept.values(reports.signals),
+        since,
         buses: heard.buses.watches(),
         units: reports.units,
         texts: reports.texts,

@@ -2,6 +2,7 @@ use crate::message_words::{LAMPS, lamp_class, lamp_word, write_meaning, write_nu
 use crate::moment::write_range;
 use crate::pieces::{write_between, write_count};
 use crate::silence::write_last_heard;
+use crate::values::write_at_first;
 use crate::view::View;
 use crate::words::PageWords;
 use dm_messages::Kind;
@@ -23,7 +24,7 @@ pub(crate) fn write_ever<W: Write>(
 ) {
     page.markup("<td role=\"cell\" data-l=\"Ever in this log\">");
     if let Some(ever) = view.ever_active(unit) {
-        write_active(page, words, ever);
+        write_active(page, view, words, unit, ever);
     }
     if let Some(ever) = view.ever.of(unit, Kind::Dm6) {
         write_pending(page, words, ever);
@@ -31,16 +32,31 @@ pub(crate) fn write_ever<W: Write>(
     page.markup("</td>");
 }
 
-fn write_active<W: Write>(page: &mut Page<W>, words: &PageWords<'_>, ever: &Ever) {
+fn write_active<W: Write>(
+    page: &mut Page<W>,
+    view: &View<'_>,
+    words: &PageWords<'_>,
+    unit: &DrawnUnit,
+    ever: &Ever,
+) {
     for lamp in LAMPS {
         if ever.lamp(lamp).times > 0 {
             write_lamp(page, words, ever, lamp);
         }
     }
-    for code in listed_of(ever.codes()) {
+    let codes = listed_of(ever.codes());
+    for (place, code) in codes.iter().enumerate() {
         page.markup("<div>");
         write_code(page, words, code);
         page.markup("</div>");
+        write_at_first(
+            page,
+            view,
+            words,
+            unit,
+            code,
+            codes.get(place.saturating_add(1)),
+        );
     }
     write_more(page, ever);
     write_last_heard(page, words, ever.last_heard());

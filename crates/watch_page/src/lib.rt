@@ -17,10 +17,13 @@ mod moment;
 mod page;
 mod pieces;
 mod silence;
+mod since;
 mod standing;
 mod style;
 mod table;
+mod values;
 mod view;
+mod vins;
 mod words;
 
 pub use page::write_page;

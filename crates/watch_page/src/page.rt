@@ -3,10 +3,13 @@ use crate::chips::write_chips;
 use crate::lanes::write_lanes;
 use crate::moment::write_time;
 use crate::pieces::write_count;
+use crate::since::write_since;
 use crate::standing::Standing;
 use crate::style::style;
 use crate::table::write_table;
+use crate::values::write_values;
 use crate::view::View;
+use crate::vins::write_vins;
 use crate::words::PageWords;
 use bus_watch::BusWatch;
 use log_lines::{DurationWords, Fraction};
@@ -40,8 +43,10 @@ fn write_parts<W: Write>(page: &mut Page<W>, view: &View<'_>, standing: &Standin
     let words = &PageWords::of(view);
     write_head(page, view, words);
     write_chips(page, view, standing);
+    write_since(page, view, words);
     write_table(page, view, words, standing);
     write_handovers(page, view, words);
+    write_values(page, view, words);
     write_lanes(page, view, words);
     write_changes(page, view, words);
     write_note(page, view.buses);
@@ -53,6 +58,7 @@ fn write_head<W: Write>(page: &mut Page<W>, view: &View<'_>, words: &PageWords<'
     write_count(page, "", view.picture.lines(), " lines");
     write_buses(page, view.buses);
     page.markup("</p>\n");
+    write_vins(page, view);
 }
 
 fn write_title<W: Write>(page: &mut Page<W>, title: &str) {

@@ -10,6 +10,8 @@ pub(crate) fn style() -> &'static str {
 *{box-sizing:border-box}body{font:16px/1.45 system-ui,'DejaVu Sans',sans-serif;margin:0;color:var(--text);background:var(--ground)}\
 main{max-width:1180px;margin:0 auto;padding:16px}h1{font-size:1.4em;margin:0 0 4px}h2{font-size:1.1em;margin:24px 0 8px}h3{font-size:.95em;margin:10px 0 2px}\
 p{margin:4px 0}.text{unicode-bidi:isolate;overflow-wrap:anywhere}.quiet,.past{color:var(--quiet)}.past,.quiet,.doubt,.silent{font-size:.85em}.doubt,.silent{color:var(--doubt)}\
+ul.since{list-style:none;margin:0;padding:0}ul.since li{margin:2px 0}.chip{display:inline-block;min-width:76px;padding:1px 8px;border-radius:10px;font-size:.85em;font-weight:600;text-align:center}\
+.vin{font-size:1.05em}table.values td:first-child{min-width:9em}.then{font-size:.85em;margin:0 0 4px 12px}.curve{display:block;max-width:100%}.curve polyline{fill:none;stroke:var(--protect);stroke-width:1.5}\
 .name{font:12px monospace;color:var(--quiet);font-weight:400}.num{text-align:right;font-variant-numeric:tabular-nums;white-space:nowrap}\n\
 ul.chips{list-style:none;margin:0;padding:0}ul.chips li{display:inline-block;padding:4px 12px;border-radius:14px;margin:0 8px 8px 0;font-weight:600}\
 .bad,.red{background:var(--red);color:var(--onred);fill:var(--red)}.good,.fine{background:var(--fine);color:var(--onfine);fill:var(--fine)}\

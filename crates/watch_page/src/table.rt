@@ -9,6 +9,7 @@ use crate::pieces::{write_between, write_count};
 use crate::silence::write_silence;
 use crate::standing::{ALL_ORDERS, Listed, Presence, Standing};
 use crate::view::View;
+use crate::vins::write_vin;
 use crate::words::PageWords;
 use bus_watch::{EntryRun, Watch, Who};
 use candump_line::Time;
@@ -203,7 +204,9 @@ fn write_who<W: Write>(page: &mut Page<W>, view: &View<'_>, unit: &DrawnUnit) {
     write_identity(page, view, unit);
     page.markup("</div><div class=\"quiet\">");
     write_fields(page, view.alloc, unit);
-    page.markup("</div></td>");
+    page.markup("</div>");
+    write_vin(page, view, unit);
+    page.markup("</td>");
 }
 
 fn write_address<W: Write>(page: &mut Page<W>, address: Option<u8>, presence: Presence) {

@@ -2,7 +2,7 @@ use bus_watch::{BusWatch, Watch, Who};
 use dm_messages::Kind;
 use log_lines::ClockForm;
 use name_field::Name;
-use picture::{DrawnUnit, Ever, EverInLog, Picture, Sender, Severity};
+use picture::{DrawnUnit, Ever, EverInLog, Picture, Sender, Severity, SignalsInLog, SinceThen};
 use shop_texts::{Texts, UnitTexts};
 use std::alloc::Global;
 
@@ -15,6 +15,10 @@ pub struct View<'a> {
     pub picture: &'a Picture,
     /// What units told at any time.
     pub ever: &'a EverInLog,
+    /// The values of signals, where those are kept.
+    pub values: Option<SignalsInLog<'a>>,
+    /// What changed since an earlier visit, where one is given.
+    pub since: Option<&'a [SinceThen]>,
     /// The buses, in the order of the numbers that units have.
     pub buses: &'a [BusWatch],
     pub units: &'a UnitTexts,
@@ -63,11 +67,14 @@ pub(crate) fn who_of(sender: &Sender) -> Who {
 
 /// How many places of units a watch has, of which some stay empty.
 pub(crate) fn places_of(watch: &Watch) -> usize {
-    watch.names().saturating_add(watch.units())
+    watch
+        .names()
+        .saturating_add(watch.units())
+        .saturating_add(watch.vins())
 }
 
-/// The sender at this place: first all NAMEs, in the order of their first claims, then the addresses that nobody has claimed. A
-/// place behind the NAMEs where the entry was one of a NAME stays empty.
+/// The sender at this place: first all NAMEs, in the order of their first claims, then the addresses that nobody has claimed, those that
+/// told a VIN alone last. A place behind the NAMEs where the entry, or the VIN, was one of a NAME stays empty.
 pub(crate) fn sender_at(watch: &Watch, place: usize) -> Option<Sender> {
     let names = watch.names();
     if place < names {
@@ -76,8 +83,32 @@ pub(crate) fn sender_at(watch: &Watch, place: usize) -> Option<Sender> {
             None => None,
         };
     }
-    match watch.unit_at(place - names) {
+    match unit_behind_names(watch, place - names) {
         Some(Who::Unclaimed { address, gaps }) => Some(Sender::Unclaimed { address, gaps }),
         _ => None,
     }
+}
+
+/// The unit at this place behind the NAMEs, where it is the first that it has there.
+fn unit_behind_names(watch: &Watch, place: usize) -> Option<Who> {
+    let units = watch.units();
+    if place < units {
+        return watch.unit_at(place);
+    }
+    let who = watch.vin_unit_at(place - units)?;
+    if has_entries(watch, &who) {
+        None
+    } else {
+        Some(who)
+    }
+}
+
+/// Whether a unit has an entry of some kind.
+fn has_entries(watch: &Watch, who: &Who) -> bool {
+    for kind in [Kind::Dm1, Kind::Dm2, Kind::Dm6] {
+        if !watch.runs(*who, kind).is_empty() {
+            return true;
+        }
+    }
+    false
 }

@@ -1,10 +1,9 @@
-use crate::options::{ReportOptions, ReportPart};
+use crate::options::{ReportOptions, ReportPart, Reported};
 use crate::report_writer::ReportWriter;
-use crate::{broken, objects, report_object, rows, text, text_report};
-use bus_watch::{BusWatch, Buses, Changes, WatchChange};
+use crate::{broken, objects, report_object, rows, text, text_report, vins};
+use bus_watch::{BusWatch, Changes, WatchChange};
 use candump_line::Time;
 use log_lines::LogFault;
-use picture::EverInLog;
 use std::io::Write;
 
 /// How changes and the report are written.
@@ -64,6 +63,26 @@ pub fn write_broken<W: Write>(
     report.end()
 }
 
+/// Writes the VIN that a unit told by the line of this number, where it had not told it before.
+///
+/// # Errors
+/// - `Write`: a write failed; how much was written by then is not told.
+pub fn write_vin<W: Write>(
+    writer: &mut W,
+    one: &BusWatch,
+    options: &ReportOptions<'_>,
+    start: &Option<Time>,
+    number: u64,
+) -> Result<(), LogFault> {
+    let mut report = ReportWriter::new(writer);
+    match options.form {
+        WatchForm::Text => vins::write_line(&mut report, one, options, start),
+        WatchForm::Json => vins::write_object(&mut report, one, number),
+        WatchForm::Csv | WatchForm::Html => {}
+    }
+    report.end()
+}
+
 /// Writes a change that the line of this number made.
 fn write_change<W: Write>(
     report: &mut ReportWriter<'_, W>,
@@ -80,8 +99,8 @@ fn write_change<W: Write>(
     }
 }
 
-/// Writes the report: a line for each NAME with what it told at any time, which is in `ever`; the counts of what was heard, and those
-/// of the lines. `start` is the time of the first line that has one. Where the form is a page, nothing is written.
+/// Writes the report: a line for each NAME with what it told at any time; the values of signals, where those are kept; the counts of what
+/// was heard, and those of the lines. Where the form is a page, nothing is written.
 ///
 /// It is written as it goes, and no memory is asked for.
 ///
@@ -89,19 +108,15 @@ fn write_change<W: Write>(
 /// - `Write`: a write failed; how much was written by then is not told.
 pub fn write_report<W: Write>(
     writer: &mut W,
-    buses: &Buses,
-    ever: &EverInLog,
-    start: &Option<Time>,
+    told: &Reported<'_>,
     options: &ReportOptions<'_>,
     part: ReportPart,
 ) -> Result<(), LogFault> {
     let mut report = ReportWriter::new(writer);
     match options.form {
-        WatchForm::Text => {
-            text_report::write_report(&mut report, buses, ever, start, options, part);
-        }
-        WatchForm::Json => report_object::write_report(&mut report, buses, ever, options, part),
-        WatchForm::Csv => rows::write_rows(&mut report, buses, ever, options, part),
+        WatchForm::Text => text_report::write_report(&mut report, told, options, part),
+        WatchForm::Json => report_object::write_report(&mut report, told, options, part),
+        WatchForm::Csv => rows::write_rows(&mut report, told, options, part),
         WatchForm::Html => {}
     }
     report.end()

@@ -4,6 +4,7 @@
 
 mod assumed;
 mod broken;
+mod earlier;
 mod ever_object;
 mod ever_rows;
 mod ever_text;
@@ -15,11 +16,17 @@ mod report_object;
 mod report_writer;
 mod reported_bus;
 mod rows;
+mod since;
 mod text;
 mod text_report;
 mod units;
+mod value_lines;
+mod value_objects;
+mod value_rows;
+mod vins;
 
 pub use assumed::Assumed;
-pub use form::{WatchForm, write_broken, write_changes, write_report};
-pub use options::{ReportOptions, ReportPart};
+pub use earlier::read_visit;
+pub use form::{WatchForm, write_broken, write_changes, write_report, write_vin};
+pub use options::{ReportOptions, ReportPart, Reported};
 pub use units::KINDS;

@@ -6,34 +6,39 @@ use crate::ever_object::write_ever;
 use crate::object_parts::{
     write_bus, write_fields, write_shown, write_text, write_time, write_trouble, write_who,
 };
-use crate::options::{ReportOptions, ReportPart};
+use crate::options::{ReportOptions, ReportPart, Reported};
 use crate::report_writer::ReportWriter;
 use crate::reported_bus::ReportedBus;
+use crate::since::write_objects as write_since;
 use crate::units::{KINDS, kind_word, row_at, row_places};
-use bus_watch::{BusWatch, Buses, EntryRun, WatchCounts, Who};
+use crate::value_objects::write_values;
+use crate::vins;
+use bus_watch::{BusWatch, EntryRun, WatchCounts, Who};
 use dm_messages::Kind;
 use picture::EverInLog;
 use std::io::Write;
 
-/// Writes the report and a line end: a row for each unit with its runs of entries, the counts of what was heard, and those of the
-/// lines.
+/// Writes the report and a line end: a row for each unit with its runs of entries, the counts of what was heard, those of the
+/// lines, and the values of signals, where those are kept.
 pub(crate) fn write_report<W: Write>(
     report: &mut ReportWriter<'_, W>,
-    buses: &Buses,
-    ever: &EverInLog,
+    told: &Reported<'_>,
     options: &ReportOptions<'_>,
     part: ReportPart,
 ) {
+    let buses = told.buses;
     write_begin(report, part);
-    write_all_rows(report, buses.watches(), ever, options);
+    write_all_rows(report, buses.watches(), told.ever, options);
     write_heard(report, buses.watches());
     write_counts(report, buses.counts());
     if buses.are_each() {
         write_buses(report, buses.watches());
     }
-    write_left_out(report, ever.left_out());
+    write_left_out(report, told.ever.left_out());
     write_partly(report, buses.counts().partly);
     write_count_keys(report, buses);
+    write_values(report, told);
+    write_since(report, told, options);
     report.text("}\n");
 }
 
@@ -89,6 +94,7 @@ fn write_rows<W: Write>(
             report.text(before);
             write_row(report, bus.one, options, who);
             write_ever(report, bus, options.texts, who);
+            vins::write_key(report, &bus.one.watch, who);
             report.text("}");
             before = ",{";
         }
@@ -96,7 +102,7 @@ fn write_rows<W: Write>(
     before
 }
 
-/// A row but for what the unit told at any time, and the end.
+/// A row but for what the unit told at any time, its VIN, and the end.
 fn write_row<W: Write>(
     report: &mut ReportWriter<'_, W>,
     one: &BusWatch,

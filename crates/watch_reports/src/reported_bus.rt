@@ -2,6 +2,7 @@ use bus_watch::{BusWatch, Who};
 use candump_line::Time;
 use dm_messages::Kind;
 use dm_words::LampWords;
+use name_field::Name;
 use picture::{DrawnUnit, Ever, EverInLog, Sender, Severity};
 use trouble_code::{LampName, Lamps};
 
@@ -50,6 +51,14 @@ fn unit_of(bus: u16, who: Who) -> DrawnUnit {
         Who::Unclaimed { address, gaps } => Sender::Unclaimed { address, gaps },
     };
     DrawnUnit { bus, sender }
+}
+
+/// Whom a watch has there.
+pub(crate) fn who_of(sender: &Sender) -> Who {
+    match *sender {
+        Sender::Named(name) => Who::Named(Name::from_number(name)),
+        Sender::Unclaimed { address, gaps } => Who::Unclaimed { address, gaps },
+    }
 }
 
 /// The word of a lamp: that of lamps of which it alone is on (SAE J1939-73, 5.7.1).

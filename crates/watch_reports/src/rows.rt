@@ -1,17 +1,18 @@
 //! The report as comma-separated values, written as it goes: nothing of it is held, and no memory is asked for.
 
 use crate::ever_rows::{EVER_HEADER, write_ever, write_no_ever};
-use crate::options::{ReportOptions, ReportPart};
+use crate::options::{ReportOptions, ReportPart, Reported};
 use crate::report_writer::ReportWriter;
 use crate::reported_bus::ReportedBus;
 use crate::units::{KINDS, WhoValue, address_of, has_entries, kind_word, row_at, row_places};
-use bus_watch::{BusWatch, Buses, EntryRun, Watch, Who};
+use crate::value_rows::{VALUE_HEADER, write_no_value, write_value_rows};
+use crate::vins;
+use bus_watch::{BusWatch, EntryRun, Watch, Who};
 use can_frame::GLOBAL_ADDRESS;
 use candump_line::Time;
 use dm_messages::Kind;
 use dm_words::{LampBytes, NO_COUNT, TroubleWords, failure_mode_words};
 use name_field::Name;
-use picture::EverInLog;
 use safe_text::{Seen, SeenCharacter};
 use shop_texts::{Texts, UnitTexts};
 use std::io::Write;
@@ -24,26 +25,27 @@ const HEADER: &str =
 /// Writes the report: a row for each code of each run of equal entries, one without a code for a run without codes, and one
 /// without a kind for a unit without entries. Where each bus is watched, the bus follows; then come what the NAME says of the unit,
 /// the shop's texts for the unit and for the code, the NAME again, what the unit told at any time, what
-/// the FMI says, and what of the entries is not read. The names of the values stand before the first part.
+/// the FMI says, what of the entries is not read, and the unit's VIN; where values of signals are kept, those, and a row for each signal.
+/// The names of the values stand before the first part.
 pub(crate) fn write_rows<W: Write>(
     report: &mut ReportWriter<'_, W>,
-    buses: &Buses,
-    ever: &EverInLog,
+    told: &Reported<'_>,
     options: &ReportOptions<'_>,
     part: ReportPart,
 ) {
     if is_first(part) {
-        write_header(report, buses.are_each());
+        write_header(report, told.buses.are_each(), options);
     }
-    for (place, one) in buses.watches().iter().enumerate() {
+    for (place, one) in told.buses.watches().iter().enumerate() {
         let bus = ReportedBus {
             one,
             place,
-            ever,
+            ever: told.ever,
             start: None,
         };
         write_bus_rows(report, &bus, options);
     }
+    write_value_rows(report, told, options);
 }
 
 /// Whether no rows stand before this part.
@@ -55,14 +57,30 @@ fn is_first(part: ReportPart) -> bool {
 }
 
 /// The names of the values.
-fn write_header<W: Write>(report: &mut ReportWriter<'_, W>, names_bus: bool) {
+fn write_header<W: Write>(
+    report: &mut ReportWriter<'_, W>,
+    names_bus: bool,
+    options: &ReportOptions<'_>,
+) {
     report.text(HEADER);
     if names_bus {
         report.text(",bus");
     }
     report.text(",function,instance,manufacturer,identity,unit_text,code_text,name_hex");
     report.text(EVER_HEADER);
-    report.text(",fmi_text,not_read\n");
+    report.text(",fmi_text,not_read,vin");
+    if options.signals.is_some() {
+        report.text(VALUE_HEADER);
+    }
+    report.text("\n");
+}
+
+/// The end of a row without a signal.
+fn write_end<W: Write>(report: &mut ReportWriter<'_, W>, options: &ReportOptions<'_>) {
+    if options.signals.is_some() {
+        write_no_value(report);
+    }
+    report.text("\n");
 }
 
 /// The rows of a bus.
@@ -108,7 +126,9 @@ fn write_without_kind<W: Write>(
     report.text(",,,,,,,,,,");
     write_words(report, one, options, who, None);
     write_no_ever(report);
-    report.text(",,\n");
+    report.text(",,");
+    vins::write_value(report, &one.watch, who);
+    write_end(report, options);
 }
 
 /// The rows of a kind of messages.
@@ -126,7 +146,7 @@ fn write_runs<W: Write>(
 
 /// The first two values of a row: the unit, and its address. In the place of a NAME stands that nobody has claimed its address, so
 /// that no two units have the same there; that has a comma.
-fn write_front<W: Write>(report: &mut ReportWriter<'_, W>, watch: &Watch, who: &Who) {
+pub(crate) fn write_front<W: Write>(report: &mut ReportWriter<'_, W>, watch: &Watch, who: &Who) {
     let unit = WhoValue(*who);
     let quote = match *who {
         Who::Named(_) => "",
@@ -174,7 +194,8 @@ fn write_row<W: Write>(
     write_ever(report, bus, who, kind, code);
     write_failure_mode(report, code);
     write_trouble(report, run);
-    report.text("\n");
+    vins::write_value(report, &bus.one.watch, who);
+    write_end(report, options);
 }
 
 /// What the FMI of a code says, behind a comma.
@@ -214,7 +235,7 @@ fn write_doubt<W: Write>(report: &mut ReportWriter<'_, W>, contested: bool, to: 
 }
 
 /// A time and a comma; the comma alone where the line told none.
-fn write_time<W: Write>(report: &mut ReportWriter<'_, W>, time: &Option<Time>) {
+pub(crate) fn write_time<W: Write>(report: &mut ReportWriter<'_, W>, time: &Option<Time>) {
     match time {
         Some(time) => write!(report, "{time},"),
         None => report.text(","),
@@ -243,7 +264,7 @@ fn write_count<W: Write>(report: &mut ReportWriter<'_, W>, count: u8) {
 }
 
 /// The bus behind a row, where each is watched; the unit and the code in words, and the NAME again.
-fn write_words<W: Write>(
+pub(crate) fn write_words<W: Write>(
     report: &mut ReportWriter<'_, W>,
     one: &BusWatch,
     options: &ReportOptions<'_>,
@@ -310,7 +331,7 @@ fn write_both<W: Write>(report: &mut ReportWriter<'_, W>, text: &str, more: &str
 
 /// A text from outside, in quotes where it has a comma or a quote. Neither a terminal nor a spreadsheet obeys it: what is hidden
 /// stands by its number, and an apostrophe stands before what begins as a formula.
-fn write_text<W: Write>(report: &mut ReportWriter<'_, W>, text: &str) {
+pub(crate) fn write_text<W: Write>(report: &mut ReportWriter<'_, W>, text: &str) {
     if needs_quotes(text) {
         report.text("\"");
         write_guard(report, text);

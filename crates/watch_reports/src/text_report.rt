@@ -3,41 +3,43 @@
 use crate::assumed::is_assumed_unit;
 use crate::broken::write_count_line;
 use crate::ever_text::write_ever;
-use crate::options::{ReportOptions, ReportPart};
+use crate::options::{ReportOptions, ReportPart, Reported};
 use crate::report_writer::ReportWriter;
 use crate::reported_bus::ReportedBus;
+use crate::since::write_lines as write_since;
 use crate::units::{KINDS, PlainWho, address_of, address_words, row_at, row_places};
-use bus_watch::{BusWatch, Buses, EntryRun, Watch, WatchCounts, Who};
-use candump_line::Time;
+use crate::value_lines::write_values;
+use crate::vins;
+use bus_watch::{BusWatch, EntryRun, Watch, WatchCounts, Who};
 use dm_messages::Kind;
 use dm_words::{LampBytes, LampWords};
-use picture::EverInLog;
 use safe_text::Seen;
 use std::io::Write;
 
-/// Writes for each bus what is told of its units, and the counts of what was heard; then those of the lines.
+/// Writes for each bus what is told of its units, and the counts of what was heard; then the values of signals, where those are kept;
+/// what changed since an earlier visit, where one is given; and the counts of the lines.
 pub(crate) fn write_report<W: Write>(
     report: &mut ReportWriter<'_, W>,
-    buses: &Buses,
-    ever: &EverInLog,
-    start: &Option<Time>,
+    told: &Reported<'_>,
     options: &ReportOptions<'_>,
     part: ReportPart,
 ) {
     if let ReportPart::Before { line, .. } = part {
         writeln!(report, "over at line {line}, so far:");
     }
-    for (place, one) in buses.watches().iter().enumerate() {
+    for (place, one) in told.buses.watches().iter().enumerate() {
         let bus = ReportedBus {
             one,
             place,
-            ever,
-            start: *start,
+            ever: told.ever,
+            start: *told.start,
         };
         write_bus(report, &bus, options);
     }
-    write_left_out(report, ever.left_out());
-    write_counts(report, buses.counts());
+    write_left_out(report, told.ever.left_out());
+    write_values(report, told, options);
+    write_since(report, told, options);
+    write_counts(report, told.buses.counts());
 }
 
 /// What is told of each unit of a bus, first of those whose red stop lamp was on; and the counts of what was heard there.
@@ -127,7 +129,7 @@ fn write_row<W: Write>(
         write_entries(report, one.watch.entries(*who, kind));
     }
     write_newest(report, one.watch.runs(*who, Kind::Dm1).last());
-    write_words(report, options, who);
+    write_words(report, one, options, who);
 }
 
 /// The unit, and the address of its NAME.
@@ -178,8 +180,13 @@ fn write_lamps<W: Write>(report: &mut ReportWriter<'_, W>, newest: &EntryRun) {
     write!(report, "{codes:>4} {lamps} ({bytes}){part}");
 }
 
-/// Whether it is assumed, the unit in words where it has a NAME, and a line end.
-fn write_words<W: Write>(report: &mut ReportWriter<'_, W>, options: &ReportOptions<'_>, who: &Who) {
+/// Whether it is assumed, the unit in words where it has a NAME, its VIN where it told one, and a line end.
+fn write_words<W: Write>(
+    report: &mut ReportWriter<'_, W>,
+    one: &BusWatch,
+    options: &ReportOptions<'_>,
+    who: &Who,
+) {
     if is_assumed_unit(options.assumed, who) {
         report.text(" assumed");
     }
@@ -187,6 +194,7 @@ fn write_words<W: Write>(report: &mut ReportWriter<'_, W>, options: &ReportOptio
         let unit = options.units.words_of(name);
         write!(report, "; {unit}");
     }
+    vins::write_in_row(report, &one.watch, who);
     report.text("\n");
 }
 

@@ -143,13 +143,18 @@ pub(crate) fn has_entries(watch: &Watch, who: &Who) -> bool {
     false
 }
 
+/// Whether a unit has an entry of some kind, or told its VIN.
+fn has_told(watch: &Watch, who: &Who) -> bool {
+    has_entries(watch, who) || !watch.vin(*who).is_empty()
+}
+
 /// Whether the row of a unit is shown: it is the unit of which alone it is told, or has or had the address of which it is.
 fn shows_row(watch: &Watch, who: &Who) -> bool {
     let selection = watch.selection();
     match &selection.unit {
         Some(UnitShown::Name(name)) => is_named(name, who),
         Some(UnitShown::Address(address)) => {
-            address_of(watch, who) == Some(*address) || has_entries(watch, who)
+            address_of(watch, who) == Some(*address) || has_told(watch, who)
         }
         None => true,
     }
@@ -164,7 +169,10 @@ fn is_named(name: &Name, who: &Who) -> bool {
 
 /// How many places of rows a report has, of which some stay empty.
 pub(crate) fn row_places(watch: &Watch) -> usize {
-    watch.names().saturating_add(watch.units())
+    watch
+        .names()
+        .saturating_add(watch.units())
+        .saturating_add(watch.vins())
 }
 
 /// The unit whose row stands at this place, where that is shown.
@@ -178,7 +186,8 @@ pub(crate) fn row_at(watch: &Watch, place: usize) -> Option<Who> {
 }
 
 /// The unit of this place: first all NAMEs, in the order of their first claims, then the addresses that nobody has claimed, in the
-/// order of their first entries. A place behind the NAMEs where the entry was one of a NAME stays empty.
+/// order of their first entries, and those that told a VIN alone. A place behind the NAMEs where the entry, or the VIN, was one of a NAME
+/// stays empty.
 fn unit_at(watch: &Watch, place: usize) -> Option<Who> {
     let names = watch.names();
     if place < names {
@@ -187,7 +196,26 @@ fn unit_at(watch: &Watch, place: usize) -> Option<Who> {
             None => None,
         };
     }
-    match watch.unit_at(place - names) {
+    unclaimed(unit_behind_names(watch, place - names))
+}
+
+/// The unit at this place behind the NAMEs, where it is the first that it has there.
+fn unit_behind_names(watch: &Watch, place: usize) -> Option<Who> {
+    let units = watch.units();
+    if place < units {
+        return watch.unit_at(place);
+    }
+    let who = watch.vin_unit_at(place - units)?;
+    if has_entries(watch, &who) {
+        None
+    } else {
+        Some(who)
+    }
+}
+
+/// A unit that is an address without owner.
+fn unclaimed(who: Option<Who>) -> Option<Who> {
+    match who {
         Some(Who::Unclaimed { address, gaps }) => Some(Who::Unclaimed { address, gaps }),
         _ => None,
     }

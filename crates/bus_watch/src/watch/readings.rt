@@ -3,10 +3,14 @@ ghost use Rattle.address_claim.specs.Frames.{claim_frame_value};
 ghost use Rattle.bus_watch.specs.Followed as followed;
 ghost use Rattle.bus_watch.specs.Told.{Told, Beginning, IsToldAs, StandsForAll};
 ghost use Rattle.bus_watch.specs.Told as told;
-ghost use Rattle.bus_watch.specs.WatchValue.{HearsLine, TellsLine, Takes, Tells};
+ghost use Rattle.bus_watch.specs.WatchValue.{HearsLine, TellsLine, Takes, Tells, vins_in};
 ghost use Rattle.can_frame.specs.FrameValue.{FrameValue};
 ghost use Rattle.can_frame.specs.declared.address.TheConstants.{GREATEST_ADDRESS};
+ghost use Rattle.bus_watch.specs.Vins.{coming, vins_with};
+ghost use Rattle.bus_watch.specs.VinsSaid.{VinsGoOn};
+ghost use Rattle.can_frame.specs.Fields.{source_of};
 ghost use Rattle.candump_line.specs.declared.line.Line.TheVariants as said;
+ghost use Rattle.listener.specs.ListenerValue.{who_in};
 ghost use Rattle.listener.specs.Paced.{half_in};
 ghost use Rattle.parameter_group.specs.Group.{group_of};
 ghost use Rattle.parameter_group.specs.Said.{IsLawfulGroup, said as group_said};
@@ -39,10 +43,12 @@ impl Watch {
         ensures told { IfOk result (λ c. IsToldAs (told.Read line.now) self.old self.new c) }
         ensures stands { OnOk result
             ((b : Beginning) (ts : List Told) → StandsForAll b ts self.old → StandsForAll b (told.Read line.now ∷ ts) self.new) }
+        ensures vins { OnOk result (VinsGoOn (told.Read line.now) self.old self.new) }
         ensures err { OnErr result (self.new ≡ self.old) }
     {
         self.counts.lines = self.counts.lines.saturating_add(1);
         self.broken.clear();
+        self.vins.clear_told();
         self.hear_line(alloc, line)
     }
 
@@ -50,11 +56,34 @@ impl Watch {
     ///
     /// # Errors
     /// Memory was refused. The watch is as it was.
+    #[tactic(auto, using(crate::proofs::VinsRead::go_on_assumed))]
     pub fn assume(&mut self, alloc: Global, name: Name, address: u8) -> Result<Changes, AllocError>
         requires { address ≤ GREATEST_ADDRESS }
         ensures told { IfOk result (λ c. IsToldAs (told.Assumed name address) self.old self.new c) }
         ensures stands { OnOk result ((b : Beginning) (ts : List Told) → StandsForAll b ts self.old
             → StandsForAll b (told.Assumed name address ∷ ts) self.new) }
+        ensures vins { OnOk result (VinsGoOn (told.Assumed name address) self.old self.new) }
+        ensures broken { self.new.broken ≡ self.old.broken }
+        ensures err { OnErr result (self.new ≡ self.old) }
+    {
+        let who = self.who_at(address);
+        let changes = self.assume_claim(alloc, name, address)?;
+        self.claim_vins(who, address, name);
+        Ok(changes)
+    }
+
+    /// The listener reads such a claim.
+    fn assume_claim(
+        &mut self,
+        alloc: Global,
+        name: Name,
+        address: u8,
+    ) -> Result<Changes, AllocError>
+        requires { address ≤ GREATEST_ADDRESS }
+        ensures told { IfOk result (λ c. IsToldAs (told.Assumed name address) self.old self.new c) }
+        ensures stands { OnOk result ((b : Beginning) (ts : List Told) → StandsForAll b ts self.old
+            → StandsForAll b (told.Assumed name address ∷ ts) self.new) }
+        ensures vins { self.new.vins ≡ self.old.vins }
         ensures broken { self.new.broken ≡ self.old.broken }
         ensures err { OnErr result (self.new ≡ self.old) }
     {
@@ -99,23 +128,24 @@ impl Watch {
     fn hear_line(&mut self, alloc: Global, line: &Line<'_>) -> Result<Changes, AllocError>
         ensures hears { OnOk result (HearsLine self.old self.new line.now) }
         ensures tells { IfOk result (λ c. TellsLine self.old self.new line.now c) }
+        ensures vins { OnOk result (self.new.vins ≡ vins_in self.old line.now) }
         ensures err { OnErr result (self.new ≡ self.old) }
     {
         match line {
             Line::Frame { time, bus, frame } => self.hear_frame(alloc, *time, *bus, frame),
             Line::Dropped { bus, count } => {
                 let reading = self.reading_of_drops(*bus, *count);
-                self.take(alloc, reading, None)
+                self.take_reading(alloc, reading, None)
             }
             Line::Overflow { time, bus } => self.hear_overflow(alloc, *time, *bus),
             Line::Foreign { bus, what } => self.hear_foreign(alloc, *bus, *what),
             Line::Note => {
                 self.count_note();
-                self.take(alloc, Reading::Empty, None)
+                self.take_reading(alloc, Reading::Empty, None)
             }
             Line::Bad(_) => {
                 let reading = self.reading_of_bad();
-                self.take(alloc, reading, None)
+                self.take_reading(alloc, reading, None)
             }
         }
     }
@@ -130,10 +160,11 @@ impl Watch {
     ) -> Result<Changes, AllocError>
         ensures hears { OnOk result (HearsLine self.old self.new (said.Frame time bus.entry frame.now)) }
         ensures tells { IfOk result (λ c. TellsLine self.old self.new (said.Frame time bus.entry frame.now) c) }
+        ensures vins { OnOk result (self.new.vins ≡ vins_in self.old (said.Frame time bus.entry frame.now)) }
         ensures err { OnErr result (self.new ≡ self.old) }
     {
         if !self.is_watched(bus) {
-            return self.take(alloc, Reading::Empty, None);
+            return self.take_reading(alloc, Reading::Empty, None);
         }
         let named = self.bus_named(alloc, bus)?;
         self.counts.frames = self.counts.frames.saturating_add(1);
@@ -151,16 +182,18 @@ impl Watch {
         ensures takes { OnOk result (Takes self.old self.new (followed.frame_reading time (half_in self.old.listener) self.old.followed frame.now) time
             (followed.followed_with time (group_of frame.now) (followed.with_bus_name (option_map string_bytes named) self.old.followed))) }
         ensures tells { IfOk result (λ c. Tells self.old self.new (followed.frame_reading time (half_in self.old.listener) self.old.followed frame.now) c) }
+        ensures vins { OnOk result (self.new.vins ≡ vins_with (coming self.old.lists.selection self.old.lists.time time self.old.followed
+            (who_in self.old.listener (source_of frame.now.id))) frame.now (group_of frame.now) self.old.vins) }
         ensures err { OnErr result (self.new ≡ self.old) }
     {
         let group = ParameterGroup::read(frame);
-        let changes = self.take_noting(alloc, &group, time)?;
+        let changes = self.take_frame(alloc, frame, &group, time)?;
         self.name_bus(named);
         Ok(changes)
     }
 
     /// Takes what a frame says, as `take_group` does, and notes what it ends. Most frames of a bus end nothing.
-    fn take_noting(
+    pub(super) fn take_noting(
         &mut self,
         alloc: Global,
         group: &ParameterGroup<'_>,
@@ -172,6 +205,7 @@ impl Watch {
             (followed.followed_with time (group_said group.now) self.old.followed)) }
         ensures tells { IfOk result (λ c. (f : FrameValue) → group_of f ≡ group_said group.now
             → Tells self.old self.new (followed.frame_reading time (half_in self.old.listener) self.old.followed f) c) }
+        ensures vins { self.new.vins ≡ self.old.vins }
         ensures err { OnErr result (self.new ≡ self.old) }
     {
         if let ParameterGroup::Other = *group {
@@ -224,11 +258,12 @@ impl Watch {
     ) -> Result<Changes, AllocError>
         ensures hears { OnOk result (HearsLine self.old self.new (said.Overflow time bus.entry)) }
         ensures tells { IfOk result (λ c. TellsLine self.old self.new (said.Overflow time bus.entry) c) }
+        ensures vins { OnOk result (self.new.vins ≡ vins_in self.old (said.Overflow time bus.entry)) }
         ensures err { OnErr result (self.new ≡ self.old) }
     {
         let named = self.bus_named(alloc, bus)?;
         let (reading, at) = self.reading_of_overflow(time, bus);
-        let changes = self.take(alloc, reading, at)?;
+        let changes = self.take_reading(alloc, reading, at)?;
         self.name_bus(named);
         Ok(changes)
     }
@@ -271,11 +306,12 @@ impl Watch {
     ) -> Result<Changes, AllocError>
         ensures hears { OnOk result (HearsLine self.old self.new (said.Foreign bus.entry what)) }
         ensures tells { IfOk result (λ c. TellsLine self.old self.new (said.Foreign bus.entry what) c) }
+        ensures vins { OnOk result (self.new.vins ≡ vins_in self.old (said.Foreign bus.entry what)) }
         ensures err { OnErr result (self.new ≡ self.old) }
     {
         let named = self.bus_named(alloc, bus)?;
         self.count_foreign(bus, what);
-        let changes = self.take(alloc, Reading::Empty, None)?;
+        let changes = self.take_reading(alloc, Reading::Empty, None)?;
         self.name_bus(named);
         Ok(changes)
     }

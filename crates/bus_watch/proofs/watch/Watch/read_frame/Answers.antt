@@ -7,5 +7,5 @@ use Rattle.bus_watch.proofs.watch.Watch.read_frame.Goals as goal
 
 pub returns-clause-takes : goal.returns-clause-takes
 returns-clause-takes c =
-    named_frame c.args.self.now c.take_noting.new.self c.name_bus.new.self _ c.args.time (group_of c.args.frame.now) (option_map string_bytes c.args.named)
+    named_frame c.args.self.now c.take_frame.new.self c.name_bus.new.self _ c.args.time (group_of c.args.frame.now) (option_map string_bytes c.args.named)
     (search rules) (search rules)

@@ -11,7 +11,7 @@ pub(crate) fn style() -> &'static str {
 main{max-width:1180px;margin:0 auto;padding:16px}h1{font-size:1.4em;margin:0 0 4px}h2{font-size:1.1em;margin:24px 0 8px}h3{font-size:.95em;margin:10px 0 2px}\
 p{margin:4px 0}.text{unicode-bidi:isolate;overflow-wrap:anywhere}.quiet,.past{color:var(--quiet)}.past,.quiet,.doubt,.silent{font-size:.85em}.doubt,.silent{color:var(--doubt)}\
 ul.since{list-style:none;margin:0;padding:0}ul.since li{margin:2px 0}.chip{display:inline-block;min-width:76px;padding:1px 8px;border-radius:10px;font-size:.85em;font-weight:600;text-align:center}\
-.vin{font-size:1.05em}table.values td:first-child{min-width:9em}.then{font-size:.85em;margin:0 0 4px 12px}.curve{display:block;max-width:100%}.curve polyline{fill:none;stroke:var(--protect);stroke-width:1.5}\
+.vin{font-size:1.05em}table.values td:first-child{min-width:11em}.then{font-size:.85em;margin:0 0 4px 12px}.curve{display:block;max-width:100%}.curve polyline{fill:none;stroke:var(--protect);stroke-width:1.5}\
 .name{font:12px monospace;color:var(--quiet);font-weight:400}.num{text-align:right;font-variant-numeric:tabular-nums;white-space:nowrap}\n\
 ul.chips{list-style:none;margin:0;padding:0}ul.chips li{display:inline-block;padding:4px 12px;border-radius:14px;margin:0 8px 8px 0;font-weight:600}\
 .bad,.red{background:var(--red);color:var(--onred);fill:var(--red)}.good,.fine{background:var(--fine);color:var(--onfine);fill:var(--fine)}\
@@ -33,5 +33,6 @@ ul.key{list-style:none;margin:8px 0;padding:0;font-size:.8em;color:var(--quiet)}
 @media (max-width:640px){text.odd{display:none}main{padding:10px}table,thead,tbody,tr,td{display:block}thead{position:absolute;left:-9999px}tr{border-bottom:2px solid var(--line);padding:6px 0}\
 td{border:0;padding:2px 0}td:empty{display:none}td.num{text-align:left}td.num[data-l^=DM]{display:inline-block;margin-right:14px}td[data-l]::before{content:attr(data-l) ': ';color:var(--quiet);font-size:.85em}}\n\
 @media (min-width:800px) and (max-width:1179px){text.middle{display:inline}text.narrow{display:none}}@media (min-width:1180px){text.wide{display:inline}text.narrow{display:none}}\n\
-@media (min-width:641px){td[data-l^=Faults],td[data-l^=Ever]{width:28%}}@page{size:A4;margin:12mm}@media print{:root{color-scheme:light}body{font-size:11pt}*{print-color-adjust:exact;-webkit-print-color-adjust:exact}details{display:none}tr,h3{break-inside:avoid}h2,h3{break-after:avoid}}\n"
+@media (min-width:641px){td[data-l^=Faults],td[data-l^=Ever]{width:28%}}@page{size:A4;margin:12mm}\n\
+@media print{:root{color-scheme:light}body{font-size:10pt}td,th{padding:3px 5px}td[data-l^=Ever]{width:36%}td[data-l^=Faults]{width:20%}.curve{min-width:38mm}table.values td{padding:2px 5px}*{print-color-adjust:exact;-webkit-print-color-adjust:exact}details{display:none}tr,h3{break-inside:avoid}h2,h3{break-after:avoid}}\n"
 }

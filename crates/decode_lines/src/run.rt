@@ -191,7 +191,12 @@ fn write_words_of_joined<W: Write>(
         write_texts(writer, options.texts, &part.shown)?;
     }
     write_signals(writer, options.signals, joined.pgn, joined.source, bytes)?;
-    match writeln!(writer) {
+    end_line(writer)
+}
+
+/// Ends a line.
+fn end_line<W: Write>(writer: &mut W) -> Result<(), LogFault> {
+    match writer.write_all(b"\n") {
         Ok(()) => Ok(()),
         Err(_) => Err(LogFault::Write),
     }
@@ -225,9 +230,11 @@ fn write_words<W: Write>(
         return Err(LogFault::of_write(error));
     }
     if let Line::Frame { frame, .. } = line {
-        write_unit_of(writer, options.units, frame)?;
-        write_texts_of(alloc, writer, options.texts, frame)?;
         let id = frame.id();
+        if id.pgn() == Pgn::ADDRESS_CLAIMED {
+            write_unit_of(writer, options.units, frame)?;
+        }
+        write_texts_of(alloc, writer, options.texts, frame)?;
         write_signals(
             writer,
             options.signals,
@@ -236,10 +243,7 @@ fn write_words<W: Write>(
             frame.bytes(),
         )?;
     }
-    match writeln!(writer) {
-        Ok(()) => Ok(()),
-        Err(_) => Err(LogFault::Write),
-    }
+    end_line(writer)
 }
 
 /// Writes the text of the unit whose NAME a frame tells, where it has one.

@@ -10,7 +10,10 @@ use std::fmt;
 /// The name of a parameter group, or `-` where it has none here.
 pub(crate) fn group_name(pgn: Pgn, audience: Audience) -> &'static str {
     match audience {
-        Audience::People => data_group_name(pgn.number()).unwrap_or(protocol_group_name(pgn)),
+        Audience::People => match data_group_name(pgn.number()) {
+            Some(name) => name,
+            None => protocol_group_name(pgn),
+        },
         Audience::Programs => protocol_group_name(pgn),
     }
 }
@@ -70,7 +73,7 @@ impl fmt::Display for GroupWords {
 pub struct AddressWords(pub u8, pub Audience);
 
 /// The first address whose hexadecimal digits differ from its decimal ones.
-const FIRST_TOLD_TWICE: u8 = 10;
+pub(crate) const FIRST_TOLD_TWICE: u8 = 10;
 
 impl fmt::Display for AddressWords {
     fn fmt<W: fmt::Write>(&self, f: &mut fmt::Formatter<W>) -> fmt::Result {
@@ -117,18 +120,5 @@ impl fmt::Display for UnreadWords {
             ReadError::OutOfMemory => "memory",
         };
         write!(f, "{word}")
-    }
-}
-
-/// Bytes in two digits each, with a space before each.
-#[derive(Clone, Copy)]
-pub(crate) struct ByteWords<'a>(pub &'a [u8]);
-
-impl fmt::Display for ByteWords<'_> {
-    fn fmt<W: fmt::Write>(&self, f: &mut fmt::Formatter<W>) -> fmt::Result {
-        for byte in self.0 {
-            write!(f, " {byte:02X}")?;
-        }
-        Ok(())
     }
 }

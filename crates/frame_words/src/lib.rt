@@ -5,6 +5,7 @@
 mod aborted;
 mod audience;
 mod group;
+mod held;
 mod line;
 mod message;
 mod names;

@@ -3,10 +3,11 @@ ghost use Rattle.frame_words.specs.Words.{foreign_text};
 
 use crate::audience::Audience;
 use crate::group::AddressWords;
-use crate::message::{write_message, write_payload};
-use can_frame::{Frame, GLOBAL_ADDRESS, Pgn};
+use crate::held::{put_id, put_place};
+use crate::message::{write_message_behind, write_payload};
+use can_frame::{Frame, Pgn};
 use candump_line::{Foreign, Line, Reason, Time};
-use safe_text::{Seen, SeenCharacter};
+use safe_text::{SeenCharacter, TextBuffer};
 use std::alloc::Global;
 use std::io;
 use std::io::Write;
@@ -22,8 +23,10 @@ pub fn write_line_words<W: Write>(
 ) -> io::Result<()> {
     match line {
         Line::Frame { time, bus, frame } => {
-            write_place(writer, *time, *bus)?;
-            write_frame(writer, alloc, frame)
+            let mut held = TextBuffer::new();
+            put_place(&mut held, writer, *time, *bus)?;
+            put_id(&mut held, writer, frame.id())?;
+            write_message_behind(&mut held, writer, alloc, frame, Audience::People)
         }
         Line::Dropped { count, .. } => write!(writer, "dropped {count} frames"),
         Line::Overflow { .. } => write!(writer, "dropped a frame or more"),
@@ -34,18 +37,6 @@ pub fn write_line_words<W: Write>(
         Line::Note => write!(writer, "-"),
         Line::Bad(reason) => write_bad(writer, *reason),
     }
-}
-
-/// Writes the time and the bus, each where the line has it.
-fn write_place<W: Write>(writer: &mut W, time: Option<Time>, bus: Option<&str>) -> io::Result<()> {
-    if let Some(time) = time {
-        write!(writer, "({time}) ")?;
-    }
-    if let Some(bus) = bus {
-        let bus = Seen::line(bus);
-        write!(writer, "{bus} ")?;
-    }
-    Ok(())
 }
 
 /// Why a line is bad. A character of it that a terminal obeys stands by its number.
@@ -70,7 +61,9 @@ pub fn write_joined_words<W: Write>(
     pgn: Pgn,
     bytes: &[u8],
 ) -> io::Result<()> {
-    write_place(writer, place.0, place.1)?;
+    let mut held = TextBuffer::new();
+    put_place(&mut held, writer, place.0, place.1)?;
+    held.write_to(writer)?;
     let source = AddressWords(ends.0, Audience::People);
     let dest = AddressWords(ends.1, Audience::People);
     let number = pgn.number();
@@ -87,14 +80,4 @@ fn foreign_word(what: Foreign) -> &'static str
         Foreign::Fd => "CAN FD frame",
         Foreign::Error => "error frame",
     }
-}
-
-fn write_frame<W: Write>(writer: &mut W, alloc: Global, frame: &Frame) -> io::Result<()> {
-    let id = frame.id();
-    let priority = id.priority();
-    let source = AddressWords(id.source(), Audience::People);
-    let dest = AddressWords(id.dest().unwrap_or(GLOBAL_ADDRESS), Audience::People);
-    let number = id.pgn().number();
-    write!(writer, "p{priority} {source}>{dest} {number} ")?;
-    write_message(writer, alloc, frame, Audience::People)
 }

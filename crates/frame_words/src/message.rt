@@ -6,14 +6,16 @@ ghost use Rattle.frame_words.specs.Words.{function_text, list_text};
 use crate::aborted::AbortWords;
 use crate::audience::Audience;
 use crate::group::{
-    AddressWords, ByteWords, ControlWords, GroupWords, UnreadWords, group_name, identification_name,
+    AddressWords, ControlWords, GroupWords, UnreadWords, group_name, identification_name,
 };
+use crate::held::{put_bytes, put_number, put_text};
 use can_frame::{Frame, Pgn};
 use dm_messages::{MessageRead, ReadError, Shown, Tolerant, read_message};
 use dm_words::{AsciiText, BytesAmiss, CodeWords, Identification, LampBytes, LampWords, PartWords};
 use name_field::{Name, NameFields};
 use parameter_group::ParameterGroup;
 use requests::Ack;
+use safe_text::TextBuffer;
 use signal_values::{Diagnostic, DiagnosticPayload};
 use std::alloc::Global;
 use std::io;
@@ -30,21 +32,60 @@ pub fn write_message<W: Write>(
     frame: &Frame,
     audience: Audience,
 ) -> io::Result<()> {
-    match ParameterGroup::read(frame) {
+    write_message_behind(&mut TextBuffer::new(), writer, alloc, frame, audience)
+}
+
+/// Writes what is held, and behind it what a frame says.
+///
+/// # Errors
+/// As of `write_message`.
+pub(crate) fn write_message_behind<W: Write>(
+    held: &mut TextBuffer,
+    writer: &mut W,
+    alloc: Global,
+    frame: &Frame,
+    audience: Audience,
+) -> io::Result<()> {
+    let group = ParameterGroup::read(frame);
+    if is_of_protocol(&group) {
+        held.write_to(writer)?;
+    }
+    match group {
         ParameterGroup::AddressClaimed { name, .. } => write_name(writer, "claim", name),
         ParameterGroup::CannotClaim { name } => write_name(writer, "cannot claim", name),
         ParameterGroup::Request(request) => write_request(writer, request.pgn, audience),
         ParameterGroup::Acknowledgment(ack) => write_acknowledgment(writer, ack, audience),
-        ParameterGroup::Diagnostic { bytes, .. } => {
-            write_payload(writer, alloc, frame.id().pgn(), bytes, audience)
-        }
         ParameterGroup::ConnectionManagement { control, .. } => {
             write_control(writer, &control, audience)
         }
-        ParameterGroup::DataTransfer { bytes, .. } => write_packet(writer, bytes),
-        ParameterGroup::Other => {
-            write_payload(writer, alloc, frame.id().pgn(), frame.bytes(), audience)
+        ParameterGroup::DataTransfer { bytes, .. } => write_packet(held, writer, bytes),
+        ParameterGroup::Diagnostic { bytes, .. } => {
+            write_payload_behind(held, writer, alloc, frame.id().pgn(), bytes, audience)
         }
+        ParameterGroup::Other => {
+            write_payload_behind(
+                held,
+                writer,
+                alloc,
+                frame.id().pgn(),
+                frame.bytes(),
+                audience,
+            )
+        }
+    }
+}
+
+/// Whether a frame speaks of addresses, groups or sessions. Such frames are rare, and are written piece by piece.
+fn is_of_protocol(group: &ParameterGroup<'_>) -> bool {
+    match group {
+        ParameterGroup::AddressClaimed { .. }
+        | ParameterGroup::CannotClaim { .. }
+        | ParameterGroup::Request(_)
+        | ParameterGroup::Acknowledgment(_)
+        | ParameterGroup::ConnectionManagement { .. } => true,
+        ParameterGroup::DataTransfer { .. }
+        | ParameterGroup::Diagnostic { .. }
+        | ParameterGroup::Other => false,
     }
 }
 
@@ -60,17 +101,34 @@ pub fn write_payload<W: Write>(
     bytes: &[u8],
     audience: Audience,
 ) -> io::Result<()> {
+    write_payload_behind(&mut TextBuffer::new(), writer, alloc, pgn, bytes, audience)
+}
+
+/// Writes what is held, and behind it what the payload of a group says.
+fn write_payload_behind<W: Write>(
+    held: &mut TextBuffer,
+    writer: &mut W,
+    alloc: Global,
+    pgn: Pgn,
+    bytes: &[u8],
+    audience: Audience,
+) -> io::Result<()> {
     let number = pgn.number();
     if let Some(word) = code_list_name(number) {
+        held.write_to(writer)?;
         return write_code_list(writer, alloc, word, bytes, audience);
     }
     if let Some(message) = Diagnostic::of(number) {
         let payload = DiagnosticPayload { message, bytes };
+        held.write_to(writer)?;
         return write!(writer, "{payload}");
     }
     match Identification::of(number) {
-        Some(group) => write_identification(writer, pgn, group, bytes, audience),
-        None => write_data(writer, pgn, bytes, audience),
+        Some(group) => {
+            held.write_to(writer)?;
+            write_identification(writer, pgn, group, bytes, audience)
+        }
+        None => write_data(held, writer, group_name(pgn, audience), bytes),
     }
 }
 
@@ -99,15 +157,17 @@ fn write_request<W: Write>(writer: &mut W, pgn: Pgn, audience: Audience) -> io::
     write!(writer, "request: of {group}")
 }
 
+/// Writes what is held, and behind it the name of a group of data and its bytes.
 fn write_data<W: Write>(
+    held: &mut TextBuffer,
     writer: &mut W,
-    pgn: Pgn,
+    name: &str,
     bytes: &[u8],
-    audience: Audience,
 ) -> io::Result<()> {
-    let name = group_name(pgn, audience);
-    let data = ByteWords(bytes);
-    write!(writer, "{name}: data{data}")
+    put_text(held, writer, name)?;
+    put_text(held, writer, ": data")?;
+    put_bytes(held, writer, bytes)?;
+    held.write_to(writer)
 }
 
 /// A NAME and its fields (SAE J1939-81).
@@ -300,12 +360,16 @@ fn write_abort<W: Write>(writer: &mut W, reason: u8, audience: Audience) -> io::
     }
 }
 
-fn write_packet<W: Write>(writer: &mut W, bytes: &[u8]) -> io::Result<()> {
+/// Writes what is held, and behind it a packet.
+fn write_packet<W: Write>(held: &mut TextBuffer, writer: &mut W, bytes: &[u8]) -> io::Result<()> {
     match bytes {
         [number, part @ ..] => {
-            let data = ByteWords(part);
-            write!(writer, "TP.DT: packet {number}:{data}")
+            put_text(held, writer, "TP.DT: packet ")?;
+            put_number(held, writer, *number)?;
+            put_text(held, writer, ":")?;
+            put_bytes(held, writer, part)?;
         }
-        [] => write!(writer, "TP.DT: empty"),
+        [] => put_text(held, writer, "TP.DT: empty")?,
     }
+    held.write_to(writer)
 }

@@ -188,7 +188,8 @@ static void in_a_session(void)
     now += SECOND;
     hears("the second packet is granted", 0x1CEC80F9, 8, grants_second);
     gives("the second packet", 0x1CEBF980, "0200020103000301");
-    hears("the first one again, which is passed over", 0x1CEC80F9, 8, grants_first);
+    hears("the first one is asked for again", 0x1CEC80F9, 8, grants_first);
+    gives("the first packet again", 0x1CEBF980, "0100FF0100010102");
     gives_none("nothing more");
     hears("the message is whole", 0x1CEC80F9, 8, has_all);
     hears("a request for DM1", 0x18EA80F9, 3, asks);

@@ -1,17 +1,16 @@
 """Units on a real bus, by the times of the lines that they hear: what each writes, and when.
 
 Written from docs/LIVE.md and docs/DECISIONS.md ("Times on a real bus" and those beside it). Times are microseconds. What a unit owes to a frame is
-`model.unit`'s; here stand the lanes in which it waits, and the times.
+`model.unit`'s, the lanes in which it waits are `model.lanes`'.
 """
 
-from .frames import (ABORT, CLAIM, CONTROL, CTS, DM1, DM2, DM6, END_OF_MESSAGE, GLOBAL, LAST_ADDRESS, PACKET, REQUEST, RTS, TITLES, acknowledgment,
+from .frames import (ABORT, CLAIM, CONTROL, CTS, DM1, DM2, DM6, END_OF_MESSAGE, GLOBAL, Frame, LAST_ADDRESS, PACKET, REQUEST, RTS, TITLES, acknowledgment,
                      broadcast, claim, claimed_name, control_of, control_pgn, packet, packets_of, requested, rts, three, to_all, to_one)
+from .lanes import ANSWER_WITHIN, DAY, HELD_FOR, LANES, ROOM, Lanes
 from .memory import Code
-from .unit import ALL, Session, Unit
+from .unit import ALL, SESSION, Session, Unit
 
-LANES = ("claims", "singles", "session", "messages")
-ROOM = 64
-ANSWER_WITHIN, HELD_FOR, DM1_PERIOD, DAY = 1_250_000, 1_050_000, 1_000_000, 86_400_000_000
+DM1_PERIOD = 1_000_000
 MOST_CHANGES = 445
 LAMPS = "lamps"
 
@@ -21,9 +20,9 @@ def needs_room(frame):
     return frame.pgn == REQUEST and requested(frame) is not None or frame.pgn == CONTROL and control_of(frame) in (RTS, CTS)
 
 
-def parting(session, source):
-    """An abort for want of an answer, reason 3 (J1939-21, 5.10.3)."""
-    return to_one(7, CONTROL, session.dest, source, bytes([ABORT, 3, 255, 255, 255]) + three(session.kind))
+def parting(session, source, reason=3):
+    """An abort: for want of an answer, reason 3, or since a packet was asked for too often, 5 (J1939-21, 5.10.3)."""
+    return to_one(7, CONTROL, session.dest, source, bytes([ABORT, reason, 255, 255, 255]) + three(session.kind))
 
 
 class Wire(list):
@@ -105,6 +104,71 @@ class Answer:
         self.several = len(data) > 8
 
 
+class Repeated(Answer):
+    """A group of more than 8 bytes that goes to all again and again: each period it is asked for, so to say."""
+
+    def __init__(self, pgn, priority, data, period):
+        super().__init__(pgn, priority, data)
+        self.period, self.at = 1000 * period, 0
+
+
+class Fault:
+    """What a unit does wrong on purpose. Times are milliseconds; `frame` and `address` are what it adds, each `period`."""
+
+    def __init__(self, kind, after=0, count=None, time=None, group=None, share=100, seed=0, wait=0, frame=None, address=None, period=0):
+        self.kind, self.after, self.time, self.group, self.share, self.wait = kind, after, time, group, share, wait
+        self.left = 1 if count is None and time is None else count
+        self.number, self.begun, self.next = seed + 1, None, None
+        self.frame, self.address, self.period = frame, address, period
+
+    def begin(self, now):
+        if self.begun is None:
+            self.begun = self.next = now + 1000 * self.after
+
+    def is_on(self, now):
+        return self.begun <= now and (self.time is None or now < self.begun + 1000 * self.time) and self.left != 0
+
+    def happens(self):
+        if self.left is not None:
+            self.left -= 1
+
+    def meets(self, frame, now):
+        """Whether it changes this frame: of those that it can change, as the numbers of its seed have it (Park and Miller's generator)."""
+        can = {"drop": True, "delay": True, "twice": True, "short": len(frame.data) > 0, "number": frame.pgn == PACKET and len(frame.data) == 8,
+               "zeros": frame.pgn == DM1 and len(frame.data) == 8, "old": frame.pgn == DM1 and len(frame.data) == 8}
+        if not (self.is_on(now) and self.group in (None, frame.pgn) and can.get(self.kind)):
+            return False
+        self.number = self.number % (2**31 - 1) * 48271 % (2**31 - 1)
+        if self.number % 100 >= self.share:
+            return False
+        self.happens()
+        return True
+
+    def carried(self, frame):
+        """What goes of it: pairs of a wait and a frame."""
+        data = frame.data
+        if self.kind in ("drop", "delay", "twice"):
+            return {"drop": [], "delay": [(1000 * self.wait, frame)], "twice": [(0, frame), (0, frame)]}[self.kind]
+        changed = {"number": bytes([data[0] + 1 & 255]) + data[1:], "short": data[:-1], "zeros": data[:6] + b"\0\0"}
+        return [(0, Frame(frame.number, changed[self.kind] if self.kind in changed else data[:5] + bytes([data[5] | 128]) + data[6:]))]
+
+    def added(self, unit, now):
+        """A frame beside those of the rules."""
+        if self.kind not in ("babble", "steal") or not self.is_on(now) or self.next > now or self.kind == "babble" and unit.held is None:
+            return None
+        self.happens()
+        self.next = now + 1000 * self.period
+        if self.kind == "steal":
+            return claim(unit.name, self.address)
+        return Frame(self.frame.number & ~255 | unit.held, self.frame.data)
+
+    def times(self):
+        return [self.begun, self.next] if self.begun is not None else []
+
+
+MOST_LATE = 64
+
+
 def identification(vin=None, component=None, software=None, ecu=None):
     """How a unit tells what it is (J1939-71, -73): fields, an asterisk behind each; before those of its software, how many they are."""
     texts = {65260: vin, 65259: component, 65242: software, 64965: ecu}
@@ -114,20 +178,18 @@ def identification(vin=None, component=None, software=None, ecu=None):
     return list(answers.values())
 
 
-class LiveUnit(Unit):
+class LiveUnit(Lanes, Unit):
     """A unit with its lanes and its times. All frames of the bus are heard, its own too."""
 
-    def __init__(self, name, address, kind, wire, gap, settle, always, cyclic=(), answers=()):
-        self.lanes = {lane: [] for lane in LANES}
-        self.counted = self.written = self.heard = self.unheard = self.sent = 0
-        self.gap, self.settle, self.always = gap, settle, always
-        self.claim_at = self.settled_at = self.packet_at = self.alone_at = self.dm1_at = 0
-        self.claimed = False
+    def __init__(self, name, address, kind, wire, gap, settle, always, cyclic=(), answers=(), repeated=(), faults=()):
+        self.stand(gap, settle)
+        self.always, self.sent, self.dm1_at = always, 0, 0
         # what its latest DM1 told: codes as (spn, fmi), and the lamps' byte; and when it told changes: (which, time), since the latest that was no change's
         self.codes_told, self.lamps_told, self.changes_told, self.lamps_changed = set(), 0, [], None
         self.cyclic, self.answers, self.answered = list(cyclic), list(answers), 0
-        # an own group on its way to one, with the frames that may go; and the packets of one to all that are left
-        self.own, self.own_frames, self.own_alone_at, self.telling, self.telling_at = None, [], 0, [], 0
+        self.repeated, self.faults, self.late, self.told = list(repeated), list(faults), [], []
+        # an own group on its way to one, with the frames that may go; and the packets of one to all that are left, and of which groups that is one
+        self.own, self.own_frames, self.own_alone_at, self.telling, self.telling_at, self.telling_of = None, [], 0, [], 0, ()
         super().__init__(name, address, kind, wire, seat=-1)
 
     # What `model.unit` calls.
@@ -154,13 +216,10 @@ class LiveUnit(Unit):
             lane = "messages"
         else:
             lane = "singles"
-        self.lanes[lane].append([(frame, place) for place, frame in enumerate(frames)])
-        self.counted += len(frames)
+        self.wait_in(lane, frames)
 
     def withdraw(self, which):
-        for lane in LANES if which == ALL else (which,):
-            self.withdrawn += sum(len(piece) for piece in self.lanes[lane])
-            self.lanes[lane] = []
+        self.withdraw_from(LANES if which == ALL else (which,))
 
     def obey(self, address):
         """A command to hold the address that is held is no change: the claim goes, in the place of those that wait, and nothing else is cut (J1939-81)."""
@@ -177,12 +236,6 @@ class LiveUnit(Unit):
     @queue.setter
     def queue(self, _):
         pass
-
-    def waiting(self):
-        return sum(len(piece) for lane in LANES for piece in self.lanes[lane])
-
-    def has_room(self):
-        return max(map(len, self.lanes.values())) < ROOM
 
     # Hearing.
 
@@ -206,13 +259,11 @@ class LiveUnit(Unit):
             self.dm1_at = now  # (its DM1 may have been cut, and begins anew)
         if held_open:
             self.alone_at = now + HELD_FOR
+        self.has_held(before, now)
         if self.held != before:
-            self.claimed = False
             self.own, self.own_frames, self.telling = None, [], []
-            for it in self.answers:
+            for it in self.answers + self.repeated:
                 it.asked = False
-        if before is not None and self.held is None:
-            self.claim_at = now + 1000 * (self.name % (1 << 21) % 154)
 
     def answer(self, it, frame):
         """A group of its own was asked for: it goes to all, or, in packets, to the one who asked for it alone. One session in all."""
@@ -222,7 +273,9 @@ class LiveUnit(Unit):
             if self.own or self.session:
                 self.refuse(frame)
                 return
-            self.own, self.own_frames = Session(it.pgn, it.data, frame.source), [rts(len(it.data), it.pgn, frame.source, self.held)]
+            self.own, self.own_frames = Session(it.pgn, it.data, frame.source), [(0, rts(len(it.data), it.pgn, frame.source, self.held))]
+            # (whether the packets that go went before; with which reason it ends)
+            self.own.again, self.own.reason = False, 3
         self.heard += 1
 
     def may_serve(self, frame):
@@ -250,15 +303,50 @@ class LiveUnit(Unit):
         over = claimed_name(frame) is not None and frame.source == own.dest
         if frame.pgn == CONTROL and (frame.dest, frame.source) == (self.held, own.dest) and control_of(frame) is not None and control_pgn(frame) == own.kind:
             granted, following = frame.data[1], frame.data[2]
-            if control_of(frame) == CTS and granted == 0:
-                self.own_alone_at = now + HELD_FOR
-            elif control_of(frame) == CTS and following == own.following:
-                last = min(following + granted - 1, packets_of(len(own.payload)))
-                self.own_frames += [packet(own.payload, which, own.dest, self.held) for which in range(following, last + 1)]
-                own.following = last + 1
+            if control_of(frame) == CTS and own.reason == 3:
+                self.clear_own(granted, following, now)
             over = control_of(frame) == ABORT or control_of(frame) == END_OF_MESSAGE and own.all_queued()
         if over:
             self.own, self.own_frames = None, []
+
+    def clear_own(self, granted, first, now):
+        """So many packets of the own group may go, from this one on: the first that never might, or, again, one that went."""
+        own = self.own
+        if granted == 0:
+            self.own_alone_at = now + HELD_FOR
+            return
+        last = min(first + granted - 1, packets_of(len(own.payload)))
+        packets = [(which, packet(own.payload, which, own.dest, self.held)) for which in range(first, last + 1)]
+        if first == own.following:
+            self.own_frames = packets if own.again else self.own_frames + packets
+            own.again, own.following = False, last + 1
+        elif 1 <= first < own.following and first not in [which for which, _ in self.own_frames]:
+            own.asked = own.asked + 1 if first <= own.asked_for else 1
+            own.asked_for = first
+            if own.asked > 2:
+                self.own_frames, self.own_alone_at, own.reason = [], now, 5
+                return
+            self.own_frames, own.following = packets, max(own.following, last + 1)
+            own.again = last + 1 < own.following
+
+    def hear_grant(self, granted, first):
+        """As there. And packets that went go again, with the rest of what is granted (J1939-21, 5.10.3): the same one twice at most, until a later one is."""
+        session = self.session
+        waiting = [frame.data[0] for piece in self.lanes["session"] for frame, _ in piece if frame.pgn == PACKET]
+        if granted and 1 <= first < session.following and first not in waiting:
+            session.asked = session.asked + 1 if first <= session.asked_for else 1
+            session.asked_for = first
+            if session.asked > 2:
+                self.end_session()
+                self.put(parting(session, self.held, 5))
+                return
+            self.withdraw(SESSION)
+            again = range(first, min(first + granted, session.following))
+            self.put(*(packet(session.payload, which, session.dest, self.held) for which in again), session=True)
+            first, granted = session.following, granted - len(again)
+        elif granted and first == session.following and waiting and waiting[-1] + 1 != first:
+            self.withdraw(SESSION)  # (what was to go again is wanted no more)
+        super().hear_grant(granted, first)
 
     def is_held_open(self, frame):
         """Whether the receiver of the open session says that it can take no packet yet."""
@@ -328,55 +416,35 @@ class LiveUnit(Unit):
 
     def due(self, now):
         """The frame that goes at this time."""
-        if self.lanes["claims"]:
-            if self.claim_at > now:
-                return None
-            if not self.claimed:  # (the pause follows the first claim of an address: J1939-81)
-                self.settled_at, self.claimed = now + self.settle, True
-            return self.take("claims")
-        if self.settled_at <= now:
-            if self.lanes["singles"]:
-                return self.take("singles")
-            if self.lanes["session"]:
-                self.alone_at = now + ANSWER_WITHIN
-                return self.take("session")
-            if self.lanes["messages"] and (self.lanes["messages"][0][0][1] == 0 or self.packet_at <= now) and not self.waits_for_own():
-                self.packet_at = now + self.gap
-                return self.take("messages")
-            if self.held is not None:
-                return self.cyclic_due(now)
-        return None
+        frame = self.lane_due(now)
+        return self.cyclic_due(now) if frame is None and self.is_settled(now) and self.held is not None else frame
 
-    def waits_for_own(self):
-        """Whether a diagnostic message of several packets to all waits for the end of an own group."""
-        return bool(self.telling) and self.lanes["messages"][0][0][0].pgn in (CONTROL, PACKET)
-
-    def take(self, lane):
-        piece = self.lanes[lane][0]
-        frame = piece.pop(0)[0]
-        if not piece:
-            self.lanes[lane].pop(0)
-        self.written += 1
-        return frame
+    def may_begin(self, frame, now):
+        """Not where a diagnostic message of several packets to all waits for the end of an own group."""
+        return not self.telling or frame.pgn not in (CONTROL, PACKET)
 
     def own_due(self, now):
         """The frame of an own group that goes."""
         if self.own_frames:
             self.own_alone_at = now + ANSWER_WITHIN
-            return self.own_frames.pop(0)
+            return self.own_frames.pop(0)[1]
         if self.own and self.own_alone_at <= now:
             own, self.own = self.own, None
-            return parting(own, self.held)
-        if self.telling and self.telling_at <= now:
+            return parting(own, self.held, own.reason)
+        return self.to_all_due(now, self.answers)
+
+    def to_all_due(self, now, groups):
+        """The next packet to all of one of these groups, or the first frame of one that was asked for: packets of two messages are never mixed."""
+        if self.telling and self.telling_of is groups and self.telling_at <= now:
             self.telling_at = now + self.gap
             return self.telling.pop(0)
-        for it in self.answers:
+        for it in groups:
             if it.asked and not (it.several and (self.telling or self.lanes["messages"])):
                 it.asked = False
                 if not it.several:
                     return to_all(it.priority, it.pgn, self.held, it.data)
                 first, *self.telling = broadcast(it.data, it.pgn, self.held)
-                self.telling_at = now + self.gap
+                self.telling_at, self.telling_of = now + self.gap, groups
                 return first
         return None
 
@@ -385,6 +453,13 @@ class LiveUnit(Unit):
         if frame:
             self.answered += 1
             return frame
+        for it in self.repeated:
+            if it.at <= now:
+                it.at, it.asked = it.at + it.period if it.at + it.period > now else now + it.period, True
+        frame = self.to_all_due(now, self.repeated)
+        if frame:
+            self.sent += 1
+            return frame
         for it in self.cyclic:
             if it.at <= now:
                 it.at = it.at + it.period if it.at + it.period > now else now + it.period
@@ -392,17 +467,45 @@ class LiveUnit(Unit):
                 return it.frame(self.held)
         return None
 
+    def goes(self, now):
+        """The frame that goes behind its faults. `told` has each that happens, with the frame that it changed or added."""
+        for it in self.faults:
+            it.begin(now)
+        for place, (at, frame) in enumerate(self.late):
+            if at <= now:
+                del self.late[place]
+                return frame
+        for it in self.faults:
+            frame = it.added(self, now)
+            if frame:
+                self.told.append((it.kind, frame))
+                return frame
+        while True:
+            frame = self.due(now)
+            if frame is None or len(self.late) >= MOST_LATE:
+                return frame
+            met = next((it for it in self.faults if it.meets(frame, now)), None)
+            if met is None:
+                return frame
+            self.told.append((met.kind, frame))
+            carried = met.carried(frame)
+            at_once = carried.pop(0)[1] if carried and carried[0][0] == 0 else None
+            self.late += [(now + wait, frame) for wait, frame in carried]
+            if at_once:
+                return at_once
+            self.act(now)  # (a frame that does not go holds nothing up)
+
     def times(self):
         """The times at which something may change by itself."""
         seconds = [time + DM1_PERIOD for _, time in self.changes_told] + ([] if self.lamps_changed is None else [self.lamps_changed + DM1_PERIOD])
-        return [self.claim_at, self.settled_at, self.packet_at, self.alone_at, self.dm1_at, self.own_alone_at, self.telling_at] + seconds + [it.at for it in self.cyclic]
+        return [self.claim_at, self.settled_at, self.packet_at, self.alone_at, self.dm1_at, self.own_alone_at, self.telling_at] + seconds + [it.at for it in self.cyclic + self.repeated] + [at for at, _ in self.late] + [time for it in self.faults for time in it.times()]
 
 
 class Playback:
     """Units, and the lines that they hear at the times of these. `out` has what was written: pairs of a time and a frame."""
 
     def __init__(self):
-        self.units, self.turn, self.wire, self.out, self.clock, self.timed = [], 0, Wire(), [], None, False
+        self.units, self.turn, self.wire, self.out, self.clock, self.timed, self.notes = [], 0, Wire(), [], None, False, []
 
     def hear(self, frame, now):
         self.wire.take(frame)
@@ -415,7 +518,9 @@ class Playback:
             place = (self.turn + offset) % count
             unit = self.units[place]
             unit.act(now)
-            frame = unit.due(now)
+            frame = unit.goes(now)
+            self.notes += [f"unit {place} fails: {kind} {its.number:08X}#{its.data.hex().upper()}\n" for kind, its in unit.told]
+            unit.told.clear()
             if frame:
                 self.turn = (place + 1) % count
                 return frame
@@ -449,11 +554,12 @@ class Playback:
             self.write_until(self.clock)
 
     def summary(self):
-        lines = []
+        """What is told: each fault on purpose, and a line for each unit."""
+        lines = list(self.notes)
         for place, unit in enumerate(self.units):
             at = "without address" if unit.held is None else f"at {unit.held}"
             unheard = f" unheard {unit.unheard}" if unit.unheard else ""
-            cyclic = (f" cyclic {unit.sent}" if unit.cyclic else "") + (f" answered {unit.answered}" if unit.answers else "")
+            cyclic = (f" cyclic {unit.sent}" if unit.cyclic or unit.repeated else "") + (f" answered {unit.answered}" if unit.answers else "")
             lines.append(f"unit {place} {unit.name:016X} {at} heard {unit.heard}{unheard} written {unit.written} withdrawn {unit.withdrawn}"
                          f" waiting {unit.waiting()}{cyclic}\n")
         return "".join(lines)

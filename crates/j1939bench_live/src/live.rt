@@ -24,11 +24,11 @@ pub(crate) fn live<
         + Files<File = File>
         + 'static,
 >(rt: &R, words: LiveArguments<'_>) -> Result<(), Failure> {
-    live_command::look_at_live_words(rt.alloc(), &words)?;
+    let gap = live_command::look_at_live_words(rt.alloc(), &words)?;
     let Some(path) = words.file else {
         return Err(Failure::from(Fault::CommandLine));
     };
-    let units = units_of(rt.alloc(), read_file(rt, path)?.as_slice())?;
+    let units = units_of(rt.alloc(), read_file(rt, path)?.as_slice(), gap)?;
     let orders = match words.control {
         Some(path) => Some(open_orders(rt, path)?),
         None => None,
@@ -54,12 +54,12 @@ fn boxed_reader<R: Runtime + AllocGlobal + Input<Reader = StdinLock<'static>>>(
     Ok(reader)
 }
 
-/// The units of a vehicle file.
-fn units_of(alloc: Global, file: &[u8]) -> Result<Vec<LiveLine>, Failure> {
+/// The units of a vehicle file, whose packets to all go so many milliseconds apart.
+fn units_of(alloc: Global, file: &[u8], gap: u32) -> Result<Vec<LiveLine>, Failure> {
     let Ok(text) = std::str::from_utf8(file) else {
         return Err(Failure::from(Fault::NotUtf8));
     };
-    match read_live_units(alloc, text) {
+    match read_live_units(alloc, text, gap) {
         Ok(units) => Ok(units),
         Err(VehicleFault::Refused(words)) => Err(Failure::told(Fault::Vehicle, Ok(words))),
         Err(VehicleFault::Memory) => Err(Failure::from(Fault::Memory)),

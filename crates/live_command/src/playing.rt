@@ -1,35 +1,37 @@
 //! A run by the times of its lines: one thread, no clock.
 
 use crate::shared::failure_of;
-use live_lines::Playback;
+use live_lines::{OnBus, Playback};
 use log_lines::{LogFault, ROOM, next_line};
 use program_io::Failure;
 use std::alloc::Global;
 use std::io::{BufReader, BufWriter, Read, Write};
 
-/// Plays lines to units, writes what these write, and ends with the lines.
+/// Plays lines to who takes part in their bus, writes what is written there, and ends with the lines.
 ///
 /// # Errors
 /// - `Read`, `Write`, `Memory`: what happened.
 /// - `BadLines`: lines were bad, or none was a frame; it was told.
-pub(crate) fn play<I: Read + Drop, W: Write, E: Write>(
+/// - `Orders`: something that was asked was not granted; it was told.
+pub(crate) fn play<B: OnBus, I: Read + Drop, W: Write, E: Write>(
     alloc: Global,
-    mut playback: Playback,
+    mut playback: Playback<B>,
     strict: bool,
     reader: I,
     writer: &mut W,
     errors: &mut E,
 ) -> Result<(), Failure> {
     let end = play_lines(alloc, &mut playback, strict, reader, writer, errors);
+    playback.close(errors);
     let ended = playback.ended(errors, end);
     let _ = errors.flush();
-    failure_of(ended)
+    failure_of(ended, playback.is_content())
 }
 
 /// Answers whether all lines were read.
-fn play_lines<I: Read + Drop, W: Write, E: Write>(
+fn play_lines<B: OnBus, I: Read + Drop, W: Write, E: Write>(
     alloc: Global,
-    playback: &mut Playback,
+    playback: &mut Playback<B>,
     strict: bool,
     reader: I,
     writer: &mut W,
@@ -44,7 +46,7 @@ fn play_lines<I: Read + Drop, W: Write, E: Write>(
         Err(error) => return Err(LogFault::of_write(error)),
     };
     let is_whole = take_lines(alloc, playback, strict, &mut reader, &mut writer, errors)?;
-    playback.finish(alloc, &mut writer)?;
+    playback.finish(alloc, &mut writer, errors)?;
     match writer.flush() {
         Ok(()) => Ok(is_whole),
         Err(error) => Err(LogFault::of_write(error)),
@@ -52,9 +54,9 @@ fn play_lines<I: Read + Drop, W: Write, E: Write>(
 }
 
 /// Takes each line. Answers whether all were read.
-fn take_lines<I: Read, W: Write, E: Write>(
+fn take_lines<B: OnBus, I: Read, W: Write, E: Write>(
     alloc: Global,
-    playback: &mut Playback,
+    playback: &mut Playback<B>,
     strict: bool,
     reader: &mut BufReader<I>,
     writer: &mut W,
@@ -65,7 +67,8 @@ fn take_lines<I: Read, W: Write, E: Write>(
         if !next_line(reader, writer, &mut line)? {
             return Ok(true);
         }
-        if playback.take(alloc, line.as_slice(), writer, errors)? && strict {
+        let bad = playback.take(alloc, line.as_slice(), writer, errors)?;
+        if bad && strict || playback.is_done() {
             return Ok(false);
         }
     }

@@ -1,7 +1,7 @@
-//! The threads that read: the lines of the bus, and what is asked of the units.
+//! The threads that read: the lines of the bus, and what is asked of who takes part in it.
 
 use crate::shared::{Shared, now};
-use live_lines::OrderReader;
+use live_lines::OnBus;
 use log_lines::{LogFault, ROOM, next_line};
 use std::io;
 use std::io::{BufReader, Read};
@@ -9,16 +9,20 @@ use std::sync::Wait;
 use std::time::Clock;
 
 /// Reads the lines of the bus to their end, which it keeps.
-pub(crate) fn read_bus<R: Wait + Clock, I: Read + Drop>(rt: &R, shared: &Shared, reader: I) {
+pub(crate) fn read_bus<R: Wait + Clock, B: OnBus, I: Read + Drop>(
+    rt: &R,
+    shared: &Shared<B>,
+    reader: I,
+) {
     let end = read_lines(rt, shared, reader);
     shared.state.lock(rt).end = Some(end);
     shared.woken.notify_one();
 }
 
-/// Has the units hear each line. Answers whether all lines were read.
-fn read_lines<R: Wait + Clock, I: Read + Drop>(
+/// Has each line heard. Answers whether all lines were read.
+fn read_lines<R: Wait + Clock, B: OnBus, I: Read + Drop>(
     rt: &R,
-    shared: &Shared,
+    shared: &Shared<B>,
     reader: I,
 ) -> Result<bool, LogFault> {
     let alloc = shared.alloc;
@@ -40,19 +44,23 @@ fn read_lines<R: Wait + Clock, I: Read + Drop>(
     Ok(false)
 }
 
-/// Reads what is asked of the units, a line each, and keeps each answer. The end of what is read does not end the run, nor does a
-/// failure, which is told.
-pub(crate) fn read_orders<R: Wait, I: Read + Drop>(rt: &R, shared: &Shared, reader: I) {
+/// Reads what is asked, a line each, and keeps each answer. The end of what is read does not end the run, nor does a failure, which
+/// is told.
+pub(crate) fn read_orders<R: Wait + Clock, B: OnBus, I: Read + Drop>(
+    rt: &R,
+    shared: &Shared<B>,
+    reader: I,
+) {
     if let Err(fault) = take_orders(rt, shared, reader) {
-        shared.state.lock(rt).end_orders(shared.alloc, fault);
+        shared.state.lock(rt).end_orders(fault);
         shared.woken.notify_one();
     }
 }
 
 /// Carries out each order.
-fn take_orders<R: Wait, I: Read + Drop>(
+fn take_orders<R: Wait + Clock, B: OnBus, I: Read + Drop>(
     rt: &R,
-    shared: &Shared,
+    shared: &Shared<B>,
     reader: I,
 ) -> Result<(), LogFault> {
     let alloc = shared.alloc;
@@ -60,7 +68,6 @@ fn take_orders<R: Wait, I: Read + Drop>(
         Ok(reader) => reader,
         Err(error) => return Err(LogFault::of_read(error)),
     };
-    let mut orders = OrderReader::new();
     let mut line = Vec::new(alloc);
     for _ in 0..u64::MAX {
         if !next_line(&mut reader, &mut io::sink(), &mut line)? {
@@ -69,7 +76,7 @@ fn take_orders<R: Wait, I: Read + Drop>(
         shared
             .state
             .lock(rt)
-            .give_order(alloc, &mut orders, line.as_slice());
+            .give_order(alloc, line.as_slice(), now(rt));
         shared.woken.notify_one();
     }
     Ok(())

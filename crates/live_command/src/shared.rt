@@ -1,10 +1,11 @@
 //! What the threads of a run share.
 
 use crate::reading::{read_bus, read_orders};
-use live_lines::{Ear, Fleet, OrderReader};
+use can_frame::Frame;
+use live_lines::{Ear, OnBus};
 use log_lines::{LinesEnd, LogFault};
 use program_io::{Failure, Fault};
-use std::alloc::{AllocError, Global};
+use std::alloc::Global;
 use std::io;
 use std::io::{Read, Write};
 use std::sync::{Condvar, Mutex, Wait};
@@ -12,8 +13,8 @@ use std::time::Clock;
 
 /// What is known of a run by all its threads.
 #[derive(Drop)]
-pub(crate) struct State {
-    pub(crate) fleet: Fleet,
+pub(crate) struct State<B> {
+    pub(crate) on_bus: B,
     pub(crate) ear: Ear,
     /// What is to be told beside the output, and is not told yet.
     pub(crate) notes: Vec<u8>,
@@ -25,8 +26,8 @@ pub(crate) struct State {
 
 /// The state under its lock, and who is woken when it changes.
 #[derive(Drop)]
-pub(crate) struct Shared {
-    pub(crate) state: Mutex<State>,
+pub(crate) struct Shared<B> {
+    pub(crate) state: Mutex<State<B>>,
     pub(crate) woken: Condvar,
     pub(crate) alloc: Global,
     /// Whether the first bad line ends the run.
@@ -38,59 +39,76 @@ pub(crate) trait Listens {
     /// Reads the lines of the bus to their end.
     fn read_bus<R: Wait + Clock, I: Read + Drop>(&self, rt: &R, reader: I);
 
-    /// Reads what is asked of the units to its end.
-    fn read_orders<R: Wait, I: Read + Drop>(&self, rt: &R, reader: I);
+    /// Reads what is asked to its end.
+    fn read_orders<R: Wait + Clock, I: Read + Drop>(&self, rt: &R, reader: I);
 }
 
-impl Listens for Shared {
+impl<B: OnBus> Listens for Shared<B> {
     fn read_bus<R: Wait + Clock, I: Read + Drop>(&self, rt: &R, reader: I) {
         read_bus(rt, self, reader);
     }
 
-    fn read_orders<R: Wait, I: Read + Drop>(&self, rt: &R, reader: I) {
+    fn read_orders<R: Wait + Clock, I: Read + Drop>(&self, rt: &R, reader: I) {
         read_orders(rt, self, reader);
     }
 }
 
-impl State {
+impl<B: OnBus> State<B> {
     /// Takes a line of the bus. Answers whether it is bad.
     pub(crate) fn take(&mut self, alloc: Global, line: &[u8], now: u64) -> Result<bool, LogFault> {
         self.ear
-            .take(alloc, &mut self.fleet, line, now, &mut self.notes)
+            .take(alloc, &mut self.on_bus, line, now, &mut self.notes)
+    }
+
+    /// The frame that goes at this time, if one does.
+    pub(crate) fn step(&mut self, alloc: Global, now: u64) -> Option<Frame> {
+        self.on_bus.step(alloc, now, &mut self.notes)
     }
 
     /// Carries out the order of a line, and keeps its answer. Where memory is refused for that, the run is told to lack it.
-    pub(crate) fn give_order(&mut self, alloc: Global, orders: &mut OrderReader, line: &[u8]) {
-        if let Some(answer) = orders.take(alloc, &mut self.fleet, line) {
-            self.note(format!(in alloc; "{answer}\n"));
-        }
-    }
-
-    /// Keeps that no more orders are read, and why.
-    pub(crate) fn end_orders(&mut self, alloc: Global, fault: LogFault) {
-        self.note(format!(in alloc; "no more orders are read\n"));
-        self.fault = Some(fault);
-    }
-
-    /// Keeps a line that is to be told, whole.
-    fn note(&mut self, line: Result<String, AllocError>) {
-        let kept = match line {
-            Ok(line) => self.notes.extend_from_slice(line.as_bytes()),
-            Err(error) => Err(error),
-        };
-        if kept.is_err() {
+    pub(crate) fn give_order(&mut self, alloc: Global, line: &[u8], now: u64) {
+        if self
+            .on_bus
+            .order(alloc, line, now, &mut self.notes)
+            .is_err()
+        {
             self.fault = Some(LogFault::Memory);
         }
     }
 
+    /// Keeps that no more orders are read, and why.
+    pub(crate) fn end_orders(&mut self, fault: LogFault) {
+        self.fault = Some(fault);
+        if self
+            .notes
+            .extend_from_slice(b"no more orders are read\n")
+            .is_err()
+        {
+            self.fault = Some(LogFault::Memory);
+        }
+    }
+
+    /// Leaves the bus at this time. Tells what was not told.
+    pub(crate) fn leave<E: Write>(&mut self, errors: &mut E, now: u64) {
+        let _ = errors.write_all(self.notes.as_slice());
+        self.on_bus.close(now, errors);
+    }
+
     /// How the run ended whose lines ended so. Tells what was not told.
-    pub(crate) fn ended<E: Write>(&self, errors: &mut E, end: Result<bool, LogFault>) -> LinesEnd {
+    pub(crate) fn ended<E: Write>(
+        &mut self,
+        errors: &mut E,
+        now: u64,
+        end: Result<bool, LogFault>,
+    ) -> Result<(), Failure> {
+        self.leave(errors, now);
         let ended = self.ear.ended(errors, end);
-        let ended = self.fleet.ended(errors, ended);
-        LinesEnd {
+        let ended = self.on_bus.ended(errors, ended);
+        let ended = LinesEnd {
             fault: ended.fault.or(self.fault),
             ..ended
-        }
+        };
+        failure_of(ended, self.on_bus.is_content())
     }
 }
 
@@ -120,13 +138,14 @@ pub(crate) fn tell<E: Write>(errors: &mut E, notes: &[u8]) -> io::Result<()> {
     errors.flush()
 }
 
-/// How a run ends that ended so.
-pub(crate) fn failure_of(ended: LinesEnd) -> Result<(), Failure> {
+/// How a run ends that ended so, and in which all that was asked was granted or not.
+pub(crate) fn failure_of(ended: LinesEnd, is_content: bool) -> Result<(), Failure> {
     match ended.fault {
         Some(LogFault::Read) => Err(Failure::from(Fault::Read)),
         Some(LogFault::Write) => Err(Failure::from(Fault::Write)),
         Some(LogFault::Memory) => Err(Failure::from(Fault::Memory)),
         None if ended.bad > 0 || ended.is_unread => Err(Failure::from(Fault::BadLines)),
+        None if !is_content => Err(Failure::from(Fault::Orders)),
         None => Ok(()),
     }
 }

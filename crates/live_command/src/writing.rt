@@ -1,12 +1,12 @@
 //! The run as a whole, and the thread that writes.
 
 use crate::playing::play;
-use crate::shared::{Listens, Shared, State, date, failure_of, now, tell};
-use crate::words::Ways;
+use crate::shared::{Listens, Shared, State, date, now, tell};
+use crate::words::{BusWays, Ways};
 use can_frame::{Frame, GREATEST_ADDRESS};
 use candump_line::{Time, write_line};
 use fault_memory::FaultError;
-use live_lines::{Ear, Fleet, Groups, Playback, Unheld, begin_with};
+use live_lines::{Ear, Fleet, Groups, OnBus, Playback, Unheld, Units, begin_with};
 use log_lines::LogFault;
 use program_io::{Failure, Fault, LiveArguments};
 use std::alloc::Global;
@@ -73,17 +73,28 @@ pub fn live<
         let unit: Box<dyn Unit> = Box::new(alloc, begun)?;
         fleet.add(alloc, unit, address, ways.settings, groups)?;
     }
-    let ear = Ear::new(alloc, ways.bus)?;
-    if ways.by_lines {
-        let playback = Playback::new(fleet, ear);
-        return play(alloc, playback, ways.strict, reader, writer, errors);
-    }
-    run(rt, alloc, fleet, ear, &ways, reader, orders, writer, errors)
+    run(
+        rt,
+        alloc,
+        Units::new(fleet),
+        &ways.lines,
+        reader,
+        orders,
+        writer,
+        errors,
+    )
 }
 
-/// Runs units on the bus.
-fn run<
+/// Has someone take part in the bus whose lines `reader` gives, writes the frames as lines, and ends with those lines, or before them
+/// where it is done. What is asked meanwhile is read from `orders`, where there are any, but not by the times of the lines.
+///
+/// # Errors
+/// - `Read`, `Write`, `Memory`: what happened.
+/// - `BadLines`: lines were bad, or none was a frame; it was told.
+/// - `Orders`: something that was asked was not granted; it was told.
+pub fn run<
     R: Threads + Wait + Clock + Sync + Send + Clone + Drop + 'static,
+    B: OnBus + Send + Drop + 'static,
     I: Read + Send + Drop + 'static,
     O: Read + Send + Drop + 'static,
     W: Write,
@@ -91,9 +102,35 @@ fn run<
 >(
     rt: &R,
     alloc: Global,
-    fleet: Fleet,
+    on_bus: B,
+    ways: &BusWays<'_>,
+    reader: I,
+    orders: Option<O>,
+    writer: &mut W,
+    errors: &mut E,
+) -> Result<(), Failure> {
+    let ear = Ear::new(alloc, ways.bus)?;
+    if ways.by_lines {
+        let playback = Playback::new(on_bus, ear);
+        return play(alloc, playback, ways.strict, reader, writer, errors);
+    }
+    run_by_clock(rt, alloc, on_bus, ear, ways, reader, orders, writer, errors)
+}
+
+/// Has someone take part in the bus by the clock.
+fn run_by_clock<
+    R: Threads + Wait + Clock + Sync + Send + Clone + Drop + 'static,
+    B: OnBus + Send + Drop + 'static,
+    I: Read + Send + Drop + 'static,
+    O: Read + Send + Drop + 'static,
+    W: Write,
+    E: Write,
+>(
+    rt: &R,
+    alloc: Global,
+    on_bus: B,
     ear: Ear,
-    ways: &Ways<'_>,
+    ways: &BusWays<'_>,
     reader: I,
     orders: Option<O>,
     writer: &mut W,
@@ -103,7 +140,7 @@ fn run<
         alloc,
         Shared {
             state: Mutex::new(State {
-                fleet,
+                on_bus,
                 ear,
                 notes: Vec::new(alloc),
                 end: None,
@@ -141,12 +178,14 @@ fn parts_of(line: LiveLine) -> (u8, Groups) {
         sends,
         answers,
         identification,
+        fails,
         ..
     } = line;
     let groups = Groups {
         sends,
         answers,
         identification,
+        fails,
     };
     (address, groups)
 }
@@ -168,9 +207,9 @@ fn start_bus<
     }
 }
 
-/// Starts the thread that reads what is asked of the units. It is not joined either.
+/// Starts the thread that reads what is asked. It is not joined either.
 fn start_orders<
-    R: Threads + Wait + Sync + Send + Clone + Drop + 'static,
+    R: Threads + Wait + Clock + Sync + Send + Clone + Drop + 'static,
     S: Listens + Sync + Send + Drop + 'static,
     O: Read + Send + Drop + 'static,
 >(rt: &R, shared: &Arc<S, Global>, orders: O) -> Result<(), Failure> {
@@ -185,18 +224,21 @@ fn start_orders<
     }
 }
 
-/// Writes the units' frames when they are due, until all lines are read and nothing is due.
-fn write_frames<R: Wait + Clock, W: Write, E: Write>(
+/// Writes frames when they are due, until the run ends and nothing is due.
+fn write_frames<R: Wait + Clock, B: OnBus, W: Write, E: Write>(
     rt: &R,
-    shared: &Shared,
-    ways: &Ways<'_>,
+    shared: &Shared<B>,
+    ways: &BusWays<'_>,
     writer: &mut W,
     errors: &mut E,
 ) -> Result<(), Failure> {
     for _ in rt.forever() {
         match look(rt, shared) {
             Next::Frame(frame) => {
-                write_frame(rt, writer, ways.bus, &frame)?;
+                if let Err(fault) = write_frame(rt, writer, ways.bus, &frame) {
+                    break_off(rt, shared, errors);
+                    return Err(Failure::from(fault));
+                }
                 thread::sleep(rt, Duration::from_micros(ways.pace));
             }
             Next::Notes(notes) => {
@@ -211,7 +253,7 @@ fn write_frames<R: Wait + Clock, W: Write, E: Write>(
 
 /// Looks what is next. Where that is nothing it waits until a frame is due, or something has changed: the lock is held from the
 /// look to the wait, so no change comes between.
-fn look<R: Wait + Clock>(rt: &R, shared: &Shared) -> Next {
+fn look<R: Wait + Clock, B: OnBus>(rt: &R, shared: &Shared<B>) -> Next {
     let alloc = shared.alloc;
     let time = now(rt);
     let mut state = shared.state.lock(rt);
@@ -220,13 +262,19 @@ fn look<R: Wait + Clock>(rt: &R, shared: &Shared) -> Next {
         std::mem::swap(&mut notes, &mut state.notes);
         return Next::Notes(notes);
     }
-    if let Some(frame) = state.fleet.step(alloc, time) {
+    if let Some(frame) = state.step(alloc, time) {
         return Next::Frame(frame);
+    }
+    if !state.notes.is_empty() {
+        return Next::Again;
     }
     if let Some(end) = state.end {
         return Next::End(end);
     }
-    let micros = state.fleet.next(time).saturating_sub(time);
+    if state.on_bus.is_done() {
+        return Next::End(Ok(false));
+    }
+    let micros = state.on_bus.next(time).saturating_sub(time);
     let longest = Duration::from_micros(micros.min(LONGEST_WAIT).max(1));
     let _ = shared.woken.wait_timeout(rt, state, longest);
     Next::Again
@@ -248,15 +296,24 @@ fn write_frame<R: Clock, W: Write>(
     Ok(())
 }
 
-/// Tells what is left to be told, and a line for each unit; answers how the run ended.
-fn finish<R: Wait, E: Write>(
+/// Tells what is left to be told, and what became of who took part; answers how the run ended.
+fn finish<R: Wait + Clock, B: OnBus, E: Write>(
     rt: &R,
-    shared: &Shared,
+    shared: &Shared<B>,
     errors: &mut E,
     end: Result<bool, LogFault>,
 ) -> Result<(), Failure> {
-    let state = shared.state.lock(rt);
-    let ended = state.ended(errors, end);
+    let time = now(rt);
+    let mut state = shared.state.lock(rt);
+    let ended = state.ended(errors, time, end);
     let _ = errors.flush();
-    failure_of(ended)
+    ended
+}
+
+/// Leaves the bus, on which nothing can be written any more, and tells what is left to be told.
+fn break_off<R: Wait + Clock, B: OnBus, E: Write>(rt: &R, shared: &Shared<B>, errors: &mut E) {
+    let time = now(rt);
+    let mut state = shared.state.lock(rt);
+    state.leave(errors, time);
+    let _ = errors.flush();
 }

@@ -1,2 +1,4 @@
 pub mod Crossing
+mod FaultLemmas
 mod OwnLemmas
+mod Waking

@@ -1,5 +1,5 @@
 -- What a unit sends of the groups that it answers beside its node, and what their session hears.
-use Rattle.std.specs.Prelude.{ℕ, ◌≡◌, ◌≤◌, ◌<◌, ◌⊎◌, ◌+◌, ◌-◌, ◌==◌, ◌&&◌, ◌||◌, Bool, true, not, min, nat_le, nat_lt, List, length, Option, Some, None, is_some, slice_get, if◌then◌else◌}
+use Rattle.std.specs.Prelude.{ℕ, ◌≡◌, ◌≤◌, ◌<◌, ◌⊎◌, ◌+◌, ◌-◌, ◌==◌, ◌&&◌, ◌||◌, Bool, true, not, max, min, nat_le, nat_lt, List, length, Option, Some, None, is_some, slice_get, if◌then◌else◌}
 use Rattle.can_frame.specs.FrameValue.{FrameValue}
 use Rattle.can_frame.specs.declared.address.TheConstants.{GLOBAL_ADDRESS}
 use Rattle.address_claim.specs.Claiming.{is_held}
@@ -10,10 +10,27 @@ use Rattle.transport.specs.declared.control.Control.TheVariants.{Abort, Cts, End
 use Rattle.vehicle.specs.Frames.{answer_frame, last_of_answer}
 use Rattle.live_unit.specs.Waits.{later}
 use Rattle.live_unit.specs.declared.clock.TheConstants.{ANSWER_WITHIN, HELD_FOR}
+use Rattle.live_lines.specs.declared.answering.Again.{Again}
 use Rattle.live_lines.specs.declared.answering.Answering.{Answering}
 use Rattle.live_lines.specs.declared.own_broadcast.OwnBroadcast.{OwnBroadcast}
 use Rattle.live_lines.specs.declared.own_session.OwnSession.{OwnSession}
-use Rattle.live_lines.specs.declared.own_session.TheConstants.{LEFT_ALONE}
+use Rattle.live_lines.specs.declared.own_session.TheConstants.{ASKED_TOO_OFTEN, LEFT_ALONE, MOST_AGAIN}
+
+-- ---- what goes again and again
+
+-- asked for by the time, it is so next a period later, or that long from now where that is over
+abbrev pub again_behind : ℕ → Again → Again
+again_behind now g = record g { from = if nat_lt now (later g.from g.period) then later g.from g.period else later now g.period }
+
+abbrev pub woken_by : ℕ → Option Again → Answering → Answering
+woken_by now None a = a
+woken_by now (Some g) a = if nat_le g.from now then record a { is_asked = true; again = Some (again_behind now g) } else a
+
+-- a group whose time has come is asked for
+abbrev pub woken : ℕ → Answering → Answering
+woken now a = woken_by now a.again a
+
+-- ---- what was asked for
 
 -- frame j of the answer at a place, from an address to another or to all
 pub record IsFrameAt (all : List Answering) (place source destination j : ℕ) (f : FrameValue) : Type 0 where
@@ -43,23 +60,69 @@ broadcast_behind place j last from = if nat_lt j last then Some (record { place 
 
 -- ---- a session
 
+-- one that was just opened
+abbrev pub own_session_opened : ℕ → ℕ → ℕ → OwnSession
+own_session_opened place pgn dest = record {
+  place = place;
+  pgn = pgn;
+  dest = dest;
+  next = 0;
+  until = 0;
+  cleared = 0;
+  alone_from = 0;
+  reason = LEFT_ALONE;
+  again = 0;
+  times = 0;
+}
+
 -- the next frame of the session: the request to send, or a packet that it was cleared to send
 abbrev pub SendsNext : OwnSession → List Answering → ℕ → FrameValue → Type 0
-SendsNext s all source f = (s.next ≤ s.cleared) × IsFrameAt all s.place source s.dest s.next f
+SendsNext s all source f = (s.next ≤ s.until) × IsFrameAt all s.place source s.dest s.next f
 
--- it was left alone (SAE J1939-21, T3 and T4): the abort for want of an answer
+-- it was left alone (SAE J1939-21, T3 and T4), or is to end: the abort with the reason for that
 abbrev pub PartsFor : OwnSession → ℕ → ℕ → FrameValue → Type 0
-PartsFor s now source f = (s.cleared < s.next) × (s.alone_from ≤ now) × (f ≡ control_frame (Abort LEFT_ALONE s.pgn) source s.dest)
+PartsFor s now source f = (s.until < s.next) × (s.alone_from ≤ now) × (f ≡ control_frame (Abort s.reason s.pgn) source s.dest)
 
 -- behind a frame of it
 abbrev pub session_behind : OwnSession → ℕ → OwnSession
 session_behind s now = record s { next = s.next + 1; alone_from = later now ANSWER_WITHIN }
 
--- a clear to send: of none holds it open; else it is honoured where it names the first packet that was not cleared yet
+-- the last of so many packets behind one
+abbrev pub through : ℕ → ℕ → ℕ → ℕ
+through before granted last = before + min granted (last - before)
+
+-- a packet was cleared before, and does not wait to go
+abbrev pub went : OwnSession → ℕ → Bool
+went s number = nat_le 1 number && nat_le number s.cleared && not (nat_le s.next number && nat_le number s.until)
+
+-- how often the packet, or an earlier one, was asked for again
+abbrev pub times_asked : OwnSession → ℕ → ℕ
+times_asked s next = if nat_le next s.again then s.times else 0
+
+-- packets are asked for again, from this one on: they go again; at the third time for one it ends with that reason
+abbrev pub session_again : OwnSession → ℕ → ℕ → ℕ → ℕ → OwnSession
+session_again s last granted next now =
+    if nat_le MOST_AGAIN (times_asked s next) then record s { next = s.until + 1; alone_from = now; reason = ASKED_TOO_OFTEN }
+    else record s {
+      next = next;
+      until = through (next - 1) granted last;
+      cleared = max s.cleared (through (next - 1) granted last);
+      again = next;
+      times = times_asked s next + 1;
+    }
+
+-- a clear to send, where it is not to end: of none holds it open; of packets that went has them go again; else it is honoured where it names the first packet that was
+-- not cleared yet
 abbrev pub session_cleared : OwnSession → ℕ → ℕ → ℕ → ℕ → OwnSession
 session_cleared s last granted next now =
-    if granted == 0 then record s { alone_from = later now HELD_FOR }
-    else if next == s.cleared + 1 then record s { cleared = s.cleared + min granted (last - s.cleared) }
+    if s.reason == ASKED_TOO_OFTEN then s
+    else if granted == 0 then record s { alone_from = later now HELD_FOR }
+    else if went s next then session_again s last granted next now
+    else if next == s.cleared + 1 then record s {
+      next = if s.until == s.cleared then s.next else next;
+      until = through s.cleared granted last;
+      cleared = through s.cleared granted last;
+    }
     else s
 
 -- what its receiver says of its group: a clear to send; an end, once all was cleared; an abort

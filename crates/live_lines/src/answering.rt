@@ -1,9 +1,9 @@
 //! What a unit sends where it is asked for it.
-ghost use Rattle.std.specs.Prelude.{◌≡◌, ◌≢◌, ◌≤◌, ◌↔◌, IfSome, IsTrue, None, false, length};
+ghost use Rattle.std.specs.Prelude.{◌≡◌, ◌≢◌, ◌≤◌, ◌↔◌, IfSome, IsTrue, None, false, length, map};
 ghost use Rattle.std.specs.List.{All};
 ghost use Rattle.can_frame.specs.Fields.{source_of};
 ghost use Rattle.vehicle.specs.Frames.{answer_frame, last_of_answer};
-ghost use Rattle.live_lines.specs.Own.{goes_now};
+ghost use Rattle.live_lines.specs.Own.{again_behind, goes_now, woken};
 ghost use Rattle.live_lines.specs.Withheld.{IsAskedOf};
 
 use can_frame::{Frame, GLOBAL_ADDRESS, Pgn};
@@ -11,11 +11,21 @@ use parameter_group::ParameterGroup;
 use requests::Request;
 use vehicle::AnswerLine;
 
+/// How a group is asked for by the time, in microseconds.
+#[derive(Clone, Copy)]
+pub(crate) struct Again {
+    /// When next.
+    pub(crate) from: u64,
+    pub(crate) period: u64,
+}
+
 /// A group that a unit answers, and whether it was asked for and is not answered yet.
 #[derive(Drop)]
 pub(crate) struct Answering {
     line: AnswerLine,
     is_asked: bool,
+    /// Where it goes again and again: how.
+    again: Option<Again>,
 }
 
 impl Answering {
@@ -24,6 +34,16 @@ impl Answering {
         Answering {
             line,
             is_asked: false,
+            again: None,
+        }
+    }
+
+    /// A group that goes again and again, for the first time as soon as its unit may send it.
+    pub(crate) fn repeated(line: AnswerLine, period: u64) -> Answering {
+        Answering {
+            line,
+            is_asked: false,
+            again: Some(Again { from: 0, period }),
         }
     }
 
@@ -59,9 +79,47 @@ impl Answering {
     /// Keeps that it was answered, whoever asked and how often.
     pub(crate) fn answered(&mut self)
         ensures once { self.new.is_asked ≡ false }
-        ensures same { self.new.line ≡ self.old.line }
+        ensures same { (self.new.line ≡ self.old.line) × (self.new.again ≡ self.old.again) }
     {
         self.is_asked = false;
+    }
+
+    /// Asks for it where its time has come. The next one is a period later, or that long from now where that is over: what was missed
+    /// is not made up for.
+    fn wake(&mut self, now: u64)
+        ensures { self.new ≡ woken now self.old }
+    {
+        let Some(again) = self.again else {
+            return;
+        };
+        if now < again.from {
+            return;
+        }
+        self.is_asked = true;
+        self.again = Some(again.behind(now));
+    }
+
+    /// When it is asked for by the time: never where it is not.
+    fn from(&self) -> u64 {
+        match self.again {
+            Some(again) => again.from,
+            None => u64::MAX,
+        }
+    }
+}
+
+impl Again {
+    /// How it goes on from this time.
+    fn behind(self, now: u64) -> Again
+        ensures { result ≡ again_behind now self }
+    {
+        let next = self.from.saturating_add(self.period);
+        let from = if next > now {
+            next
+        } else {
+            now.saturating_add(self.period)
+        };
+        Again { from, ..self }
     }
 }
 
@@ -113,4 +171,22 @@ pub(crate) fn forget(all: &mut [Answering]) {
     for one in all.iter_mut() {
         one.is_asked = false;
     }
+}
+
+/// Asks for each whose time has come.
+pub(crate) fn wake(all: &mut [Answering], now: u64)
+    ensures { all.new ≡ map (woken now) all.old }
+{
+    for one in all.iter_mut() {
+        one.wake(now);
+    }
+}
+
+/// When the first of them is asked for by the time.
+pub(crate) fn first_from(all: &[Answering]) -> u64 {
+    let mut first = u64::MAX;
+    for one in all {
+        first = first.min(one.from());
+    }
+    first
 }

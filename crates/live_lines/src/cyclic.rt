@@ -56,3 +56,24 @@ impl Cyclic {
         Some(frame)
     }
 }
+
+/// The first frame that goes at this time of those that are sent again and again, from this address.
+pub(crate) fn cyclic_due(all: &mut [Cyclic], source: u8, now: u64) -> Option<Frame>
+    ensures { IfSome result (λ f. source_of f.id ≡ source) }
+{
+    for cyclic in all.iter_mut() {
+        if let Some(frame) = cyclic.due(source, now) {
+            return Some(frame);
+        }
+    }
+    None
+}
+
+/// When the first of those that are sent again and again goes.
+pub(crate) fn cyclic_from(all: &[Cyclic]) -> u64 {
+    let mut first = u64::MAX;
+    for cyclic in all {
+        first = first.min(cyclic.from());
+    }
+    first
+}

@@ -1,13 +1,13 @@
-//! The lines of a bus, of which units hear the frames.
+//! The lines of a bus, of whose frames those who take part in it hear.
 
-use crate::fleet::Fleet;
+use crate::on_bus::OnBus;
 use can_frame::Frame;
 use candump_line::{Line, Time, read_line};
 use log_lines::{LinesEnd, LogFault, Notices};
 use std::alloc::{AllocError, Global};
 use std::io::Write;
 
-/// Who reads the lines of a bus for its units.
+/// Who reads the lines of a bus for those who take part in it.
 #[derive(Drop)]
 pub struct Ear {
     bus: String,
@@ -15,11 +15,21 @@ pub struct Ear {
     notices: Notices,
 }
 
-/// What a line is to the units.
+/// A frame of the bus, with the number of its line, from 1, and its time where it has one.
+#[derive(Clone, Copy)]
+pub struct HeardFrame {
+    pub frame: Frame,
+    pub line: u64,
+    pub time: Option<Time>,
+}
+
+/// What a line is to who takes part in the bus.
 #[derive(Clone, Copy)]
 pub(crate) struct Heard {
-    /// A frame of their bus, with its time where the line has one.
-    pub(crate) frame: Option<(Option<Time>, Frame)>,
+    /// A frame of the bus.
+    pub(crate) frame: Option<HeardFrame>,
+    /// How many frames of the bus were not read.
+    pub(crate) missed: u32,
     /// Whether the line is bad.
     pub(crate) is_bad: bool,
 }
@@ -34,25 +44,33 @@ impl Ear {
         })
     }
 
-    /// Takes a line, with its end: the units hear its frame at this time, where it has one of this bus. A bad line is told on
-    /// `errors`. Answers whether the line is bad.
+    /// Takes a line, with its end: its frame is heard at this time, where it has one of this bus. A bad line is told on `errors`, and
+    /// is a frame that was not read. Answers whether the line is bad.
     ///
     /// # Errors
     /// `Write`: it could not be told.
-    pub fn take<E: Write>(
+    pub fn take<B: OnBus, E: Write>(
         &mut self,
         alloc: Global,
-        fleet: &mut Fleet,
+        on_bus: &mut B,
         line: &[u8],
         now: u64,
         errors: &mut E,
     ) -> Result<bool, LogFault>
         requires { Unit {0} }
     {
-        let Heard { frame, is_bad } = self.read(line, errors)?;
-        if let Some((_, frame)) = frame {
-            fleet.hear(alloc, &frame, now);
+        let Heard {
+            frame,
+            missed,
+            is_bad,
+        } = self.read(line, errors)?;
+        if missed > 0 {
+            on_bus.miss(alloc, missed, now, errors);
         }
+        let Some(frame) = frame else {
+            return Ok(is_bad);
+        };
+        on_bus.hear(alloc, &frame, now, errors);
         Ok(is_bad)
     }
 
@@ -65,11 +83,34 @@ impl Ear {
         self.number = self.number.saturating_add(1);
         let said = read_line(line);
         let is_bad = self.notices.take(errors, self.number, line, &said)?;
-        let frame = match said {
-            Line::Frame { time, bus, frame } if self.is_of_bus(bus) => Some((time, frame)),
-            _ => None,
+        let (frame, missed) = match said {
+            Line::Frame { time, bus, frame } if self.is_of_bus(bus) => (
+                Some(HeardFrame {
+                    frame,
+                    line: self.number,
+                    time,
+                }),
+                0,
+            ),
+            Line::Dropped { bus, count } if self.is_of_bus(bus) => (None, count),
+            Line::Overflow { bus, .. } if self.is_of_bus(bus) => (None, 1),
+            Line::Bad(_) => (None, 1),
+            _ => (None, 0),
         };
-        Ok(Heard { frame, is_bad })
+        Ok(Heard {
+            frame,
+            missed,
+            is_bad,
+        })
+    }
+
+    /// A frame that was written behind the latest line.
+    pub(crate) fn written(&self, frame: Frame, time: Option<Time>) -> HeardFrame {
+        HeardFrame {
+            frame,
+            line: self.number,
+            time,
+        }
     }
 
     /// The bus whose lines are read.

@@ -1,4 +1,4 @@
-ghost use Rattle.std.specs.Prelude.{◌≡◌, ◌≢◌, ◌≤◌, ◌↔◌, ◌||◌, IfSome, IsSome, IsTrue, None, Some, false, true};
+ghost use Rattle.std.specs.Prelude.{[], ◌≡◌, ◌≢◌, ◌≤◌, ◌↔◌, ◌||◌, ◌⊎◌, IfSome, IsSome, IsTrue, None, Some, false, is_some, true};
 ghost use Rattle.can_frame.specs.Fields.{source_of};
 ghost use Rattle.can_frame.specs.declared.address.TheConstants.{GREATEST_ADDRESS};
 ghost use Rattle.address_claim.specs.Frames.{claim_source};
@@ -7,9 +7,10 @@ ghost use Rattle.live_unit.specs.Steps.{Writes};
 ghost use Rattle.live_lines.specs.Withheld.{IsAskedAlone, IsAskedOf, IsOfSeveral};
 ghost use Rattle.log_lines.specs.declared.fault.LogFault.TheVariants.{Memory};
 
-use crate::answering::{Answering, asked_of};
-use crate::cyclic::Cyclic;
-use crate::own_groups::OwnGroups;
+use crate::answering::asked_of;
+use crate::cyclic::{Cyclic, cyclic_due, cyclic_from};
+use crate::faults::{Faults, write_note};
+use crate::own_groups::{OwnGroups, groups_answered, repeated_of};
 use can_frame::{Frame, GLOBAL_ADDRESS, GREATEST_ADDRESS, Pgn};
 use dm_messages::Kind;
 use fault_memory::{FaultChange, FaultError, FaultMemory};
@@ -20,7 +21,7 @@ use std::alloc::{AllocError, Global};
 use std::io;
 use std::io::Write;
 use unit_trait::Unit;
-use vehicle::{AnswerLine, Identification, SendLine};
+use vehicle::{AnswerLine, CyclicLine, FailLine, Identification};
 
 /// How long a unit that was refused memory waits before it tries again, in microseconds.
 const RETRY: u64 = 100_000;
@@ -32,12 +33,15 @@ const MOST_ACTS: u32 = 8;
 #[derive(Drop)]
 struct Member {
     unit: LiveUnit,
-    /// What it sends again and again, and how many frames of these it wrote.
+    /// What it sends again and again, in one frame and in packets, and how many frames of these it wrote.
     cyclic: Vec<Cyclic>,
+    repeated: OwnGroups,
     sent: u64,
     /// What it sends where it is asked for it, and how many frames of these it wrote.
     answers: OwnGroups,
     answered: u64,
+    /// What it does wrong on purpose.
+    faults: Faults,
     /// Whether it has left the bus.
     has_left: bool,
     /// How many frames it heard, and how many it could not hear.
@@ -51,11 +55,13 @@ struct Member {
 #[derive(Drop)]
 pub struct Groups {
     /// What it sends again and again.
-    pub sends: Vec<SendLine>,
+    pub sends: Vec<CyclicLine>,
     /// What it sends where it is asked for it.
     pub answers: Vec<AnswerLine>,
     /// How it tells what it is where it is asked.
     pub identification: Identification,
+    /// What it does wrong on purpose.
+    pub fails: Vec<FailLine>,
 }
 
 /// Units that take part in one bus, in the order in which they came.
@@ -92,16 +98,27 @@ impl Fleet {
         requires { address ≤ GREATEST_ADDRESS }
     {
         let mut cyclic = Vec::new(alloc);
+        let mut repeated = Vec::new(alloc);
         for group in groups.sends {
-            cyclic.push(Cyclic::new(group))?;
+            match group {
+                CyclicLine::One(line) => cyclic.push(Cyclic::new(line))?,
+                CyclicLine::Long(long) => repeated.push(repeated_of(long))?,
+            }
         }
-        let answers = own_groups(alloc, groups.identification, groups.answers, settings.gap)?;
+        let repeated = OwnGroups::new(repeated, settings.gap);
+        let mut faults = Faults::none(alloc);
+        for line in groups.fails {
+            faults.add(&line)?;
+        }
+        let answers = groups_answered(alloc, groups.identification, groups.answers, settings.gap)?;
         self.members.push(Member {
             unit: LiveUnit::new(alloc, unit, address, settings)?,
             cyclic,
+            repeated,
             sent: 0,
             answers,
             answered: 0,
+            faults,
             has_left: false,
             heard: 0,
             unheard: 0,
@@ -124,8 +141,8 @@ impl Fleet {
     }
 
     /// The frame that goes at this time, if one does: that of the first unit, from the one whose turn it is on, that has one. Units
-    /// do first of their own accord what is due; one that is refused memory for it tries again later.
-    pub fn step(&mut self, alloc: Global, now: u64) -> Option<Frame>
+    /// do first of their own accord what is due; one that is refused memory for it tries again later. Each fault on purpose is told.
+    pub fn step<N: Write>(&mut self, alloc: Global, now: u64, notes: &mut N) -> Option<Frame>
         requires { Unit {0} }
     {
         let mut refused = false;
@@ -136,10 +153,9 @@ impl Fleet {
             let Some(member) = self.members.get_mut(place) else {
                 continue;
             };
-            if member.act(alloc, now) {
-                refused = true;
-            }
-            found = member.due(now);
+            let (short, frame) = member.step(alloc, place, now, notes);
+            refused = refused || short;
+            found = frame;
             if found.is_some() {
                 self.turn = place_after(place, 1, count);
                 break;
@@ -210,6 +226,14 @@ impl Fleet {
         Some(member.unit.begin(alloc, kind))
     }
 
+    /// Has a unit do something wrong from now on. None where no unit at that place is on the bus.
+    pub(crate) fn fail(&mut self, place: u32, line: &FailLine) -> Option<Result<(), AllocError>>
+        requires { Unit {0} }
+    {
+        let member = self.unit_at(place)?;
+        Some(member.faults.add(line))
+    }
+
     /// Takes a unit off the bus: it hears nothing more, and writes nothing. None where no unit at that place is on it.
     pub(crate) fn leave(&mut self, place: u32) -> Option<()>
         requires { Unit {0} }
@@ -259,6 +283,7 @@ impl Member {
         let result = self.unit.hear(alloc, frame, now);
         if self.unit.held() != held {
             self.answers.forget();
+            self.repeated.forget();
         }
         match result {
             Ok(_) => self.count(Ok(())),
@@ -347,7 +372,7 @@ impl Member {
             return false;
         }
         for _ in 0..MOST_ACTS {
-            let done = if self.answers.is_telling() {
+            let done = if self.is_telling() {
                 self.unit.act_beside(alloc, now)
             } else {
                 self.unit.act(alloc, now)
@@ -362,6 +387,84 @@ impl Member {
             }
         }
         false
+    }
+
+    /// The frame of it that goes at this time, if one does. First it does what is due of its own accord, and again behind each frame
+    /// that a fault keeps from going. Tells also whether memory was refused.
+    fn step<N: Write>(
+        &mut self,
+        alloc: Global,
+        place: usize,
+        now: u64,
+        notes: &mut N,
+    ) -> (bool, Option<Frame>)
+        requires { Unit {0} }
+    {
+        let mut refused = false;
+        for _ in 0..u64::MAX {
+            refused = self.act(alloc, now) || refused;
+            match self.goes(place, now, notes) {
+                None => break,
+                Some(None) => {}
+                Some(found) => return (refused, found),
+            }
+        }
+        (refused, None)
+    }
+
+    /// What goes at this time behind its faults, each of which is told as it happens: `Some(None)` where they keep a frame from
+    /// going, none where no frame is due.
+    fn goes<N: Write>(&mut self, place: usize, now: u64, notes: &mut N) -> Option<Option<Frame>>
+        requires { Unit {0} }
+        ensures without { self.old.faults.all.items ≡ []
+            → IfSome result (λ r. IfSome r (λ f. source_of f.id ≡ claim_source self.old.unit.live.node.claimer.held)) }
+    {
+        if self.has_left {
+            return None;
+        }
+        if !self.faults.is_empty() {
+            return self.fails(place, now, notes);
+        }
+        let frame = self.due(now)?;
+        Some(Some(frame))
+    }
+
+    /// What goes at this time behind its faults, where it has any.
+    fn fails<N: Write>(&mut self, place: usize, now: u64, notes: &mut N) -> Option<Option<Frame>>
+        requires { Unit {0} }
+    {
+        if let Some(frame) = self.unasked(place, now, notes) {
+            return Some(Some(frame));
+        }
+        let frame = self.due(now)?;
+        Some(self.carry(&frame, place, now, notes))
+    }
+
+    /// The frame that goes at this time by its faults alone: one that waited for them, or one that they add.
+    fn unasked<N: Write>(&mut self, place: usize, now: u64, notes: &mut N) -> Option<Frame> {
+        self.faults.begin(now);
+        if let Some(frame) = self.faults.late(now) {
+            return Some(frame);
+        }
+        let held = self.unit.held();
+        let (deviation, frame) = self.faults.added(self.unit.name(), held, now)?;
+        let _ = write_note(notes, place, &deviation, &frame);
+        Some(frame)
+    }
+
+    /// What goes at once of a frame that it writes at this time. A fault that changes it is told.
+    fn carry<N: Write>(
+        &mut self,
+        frame: &Frame,
+        place: usize,
+        now: u64,
+        notes: &mut N,
+    ) -> Option<Frame> {
+        let carry = self.faults.carry(frame, now);
+        if let Some(deviation) = &carry.deviation {
+            let _ = write_note(notes, place, deviation, frame);
+        }
+        carry.frame
     }
 
     /// The frame of it that goes at this time: one that waits, or else one of a group of its own.
@@ -383,15 +486,23 @@ impl Member {
         requires { Unit {0} }
         ensures writes { IfSome result (λ f. Writes self.old.unit.live.settings now f self.old.unit.live.queue self.old.unit.live.clock
             self.new.unit.live.queue self.new.unit.live.clock) }
-        ensures beside { IsSome self.old.answers.broadcast → is_withheld self.old.unit.live.queue ≡ true → result ≡ None }
+        ensures beside { (IsSome self.old.answers.broadcast ⊎ IsSome self.old.repeated.broadcast)
+            → is_withheld self.old.unit.live.queue ≡ true → result ≡ None }
         ensures source { IfSome result (λ f. source_of f.id ≡ claim_source self.old.unit.live.node.claimer.held) }
         ensures held { self.new.unit.live.node ≡ self.old.unit.live.node }
     {
-        if self.answers.is_telling() {
+        if self.is_telling() {
             self.unit.due_beside(now)
         } else {
             self.unit.due(now)
         }
+    }
+
+    /// Whether a group of its own goes to all in packets.
+    fn is_telling(&self) -> bool
+        ensures { result ≡ (is_some self.now.answers.broadcast || is_some self.now.repeated.broadcast) }
+    {
+        self.answers.is_telling() || self.repeated.is_telling()
     }
 
     /// The frame of its groups that goes at this time: an answer, or one that it sends again and again.
@@ -403,14 +514,25 @@ impl Member {
         if from > now {
             return None;
         }
-        let may_begin = !self.unit.is_telling();
+        let may_begin = !self.unit.is_telling() && !self.repeated.is_telling();
         if let Some(frame) = self.answers.due(source, now, may_begin) {
             self.answered = self.answered.saturating_add(1);
             return Some(frame);
         }
-        let frame = cyclic_due(self.cyclic.as_mut_slice(), source, now)?;
+        let frame = self.repeated_due(source, now)?;
         self.sent = self.sent.saturating_add(1);
         Some(frame)
+    }
+
+    /// The frame that goes at this time of what it sends again and again.
+    fn repeated_due(&mut self, source: u8, now: u64) -> Option<Frame>
+        ensures source { IfSome result (λ f. source_of f.id ≡ source) }
+    {
+        let may_begin = !self.unit.is_telling() && !self.answers.is_telling();
+        match self.repeated.due_again(source, now, may_begin) {
+            None => cyclic_due(self.cyclic.as_mut_slice(), source, now),
+            found => found,
+        }
     }
 
     /// When to look again.
@@ -418,7 +540,7 @@ impl Member {
         if self.has_left {
             return u64::MAX;
         }
-        let next = if self.answers.is_telling() {
+        let next = if self.is_telling() {
             self.unit.next_beside(now)
         } else {
             self.unit.next(now)
@@ -428,11 +550,18 @@ impl Member {
         } else {
             next
         };
+        let next = next.min(self.faults.next(self.unit.held(), now));
         let Some(from) = self.unit.free_from() else {
             return next;
         };
-        let answer = self.answers.from(!self.unit.is_telling());
-        next.min(cyclic_from(self.cyclic.as_slice()).min(answer).max(from))
+        let answer = self
+            .answers
+            .from(!self.unit.is_telling() && !self.repeated.is_telling());
+        let repeated = self
+            .repeated
+            .from(!self.unit.is_telling() && !self.answers.is_telling());
+        let cyclic = cyclic_from(self.cyclic.as_slice());
+        next.min(cyclic.min(answer).min(repeated).max(from))
     }
 
     fn write_line<W: Write>(&self, writer: &mut W, place: usize) -> io::Result<()> {
@@ -458,7 +587,7 @@ impl Member {
             writer,
             " written {written} withdrawn {withdrawn} waiting {waiting}"
         )?;
-        if !self.cyclic.is_empty() {
+        if !self.cyclic.is_empty() || !self.repeated.is_empty() {
             write!(writer, " cyclic {}", self.sent)?;
         }
         if !self.answers.is_empty() {
@@ -469,7 +598,7 @@ impl Member {
 }
 
 /// How a run ended whose lines ended so, and in which memory was refused or not.
-fn ended_short(lines: LinesEnd, is_short: bool) -> LinesEnd
+pub fn ended_short(lines: LinesEnd, is_short: bool) -> LinesEnd
     ensures short { is_short ≡ true → lines.fault ≡ None → result.fault ≡ Some Memory }
     ensures same { is_short ≡ false → result ≡ lines }
 {
@@ -482,56 +611,12 @@ fn ended_short(lines: LinesEnd, is_short: bool) -> LinesEnd
     }
 }
 
-/// The first frame that goes at this time of those that are sent again and again, from this address.
-fn cyclic_due(all: &mut [Cyclic], source: u8, now: u64) -> Option<Frame>
-    ensures { IfSome result (λ f. source_of f.id ≡ source) }
-{
-    for cyclic in all.iter_mut() {
-        if let Some(frame) = cyclic.due(source, now) {
-            return Some(frame);
-        }
-    }
-    None
-}
-
-/// When the first of those that are sent again and again goes.
-fn cyclic_from(all: &[Cyclic]) -> u64 {
-    let mut first = u64::MAX;
-    for cyclic in all {
-        first = first.min(cyclic.from());
-    }
-    first
-}
-
 /// The place so many after another, in a ring of `count`.
 fn place_after(place: usize, offset: usize, count: usize) -> usize {
     if count == 0 {
         return 0;
     }
     place.saturating_add(offset) % count
-}
-
-/// What a unit answers beside its node, how it tells what it is before all else.
-fn own_groups(
-    alloc: Global,
-    identification: Identification,
-    answers: Vec<AnswerLine>,
-    gap: u64,
-) -> Result<OwnGroups, AllocError> {
-    let Identification {
-        vin,
-        component,
-        software,
-        ecu,
-    } = identification;
-    let mut all = Vec::new(alloc);
-    for line in [vin, component, software, ecu].into_iter().flatten() {
-        all.push(Answering::new(line))?;
-    }
-    for line in answers {
-        all.push(Answering::new(line))?;
-    }
-    Ok(OwnGroups::new(all, gap))
 }
 
 /// Whether a session may go to who asks: from an address that can be held, and another one than is asked.

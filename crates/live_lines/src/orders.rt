@@ -8,6 +8,7 @@ use live_unit::{LiveError, QueueCounts};
 use script_line::{CodeChange, Command};
 use std::alloc::Global;
 use std::{fmt, str};
+use vehicle::{VehicleFault, read_fail};
 
 /// Who reads the lines of orders.
 #[derive(Drop)]
@@ -66,9 +67,12 @@ impl OrderReader {
         if script_line::is_silent(text) {
             return None;
         }
-        let reply = match ControlOrder::read(text) {
-            Some(order) => order.give(alloc, fleet),
-            None => Reply::BadLine,
+        let reply = match failing_in(text) {
+            Some((place, words)) => fail(alloc, fleet, place, words),
+            None => match ControlOrder::read(text) {
+                Some(order) => order.give(alloc, fleet),
+                None => Reply::BadLine,
+            },
         };
         Some(Answer { number, reply })
     }
@@ -131,6 +135,29 @@ impl ControlOrder {
             },
             _ => Reply::BadLine,
         }
+    }
+}
+
+/// The unit that is to fail, and how, where that is what a line asks for.
+fn failing_in(text: &str) -> Option<(u32, &str)> {
+    let rest = text.strip_prefix("fail ")?;
+    let (place, words) = rest.trim_start().split_once(' ')?;
+    Some((script_line::read_number(place)?, words))
+}
+
+/// Has a unit fail as these words say.
+fn fail(alloc: Global, fleet: &mut Fleet, place: u32, words: &str) -> Reply
+    requires { Unit {0} }
+{
+    let line = match read_fail(alloc, words) {
+        Ok(line) => line,
+        Err(VehicleFault::Refused(_)) => return Reply::BadLine,
+        Err(VehicleFault::Memory) => return Reply::Fault(FaultError::OutOfMemory),
+    };
+    match fleet.fail(place, &line) {
+        Some(Ok(())) => Reply::Done,
+        Some(Err(_)) => Reply::Fault(FaultError::OutOfMemory),
+        None => Reply::NoUnit,
     }
 }
 

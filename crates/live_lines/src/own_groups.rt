@@ -1,21 +1,23 @@
 //! What a unit answers beside its node.
-ghost use Rattle.std.specs.Prelude.{◌≡◌, ◌≢◌, ◌≤◌, ◌&&◌, not, false, IfSome, None, Some, is_some, slice_get};
+ghost use Rattle.std.specs.Prelude.{◌≡◌, ◌≢◌, ◌≤◌, ◌&&◌, not, false, IfSome, None, Some, is_some, map, slice_get};
 ghost use Rattle.std.specs.List.{All};
 ghost use Rattle.can_frame.specs.Fields.{source_of};
 ghost use Rattle.can_frame.specs.declared.address.TheConstants.{GLOBAL_ADDRESS};
 ghost use Rattle.transport.specs.Messages as messages;
 ghost use Rattle.transport.specs.declared.control.Control.TheVariants.{Abort};
 ghost use Rattle.vehicle.specs.Frames.{last_of_answer};
-ghost use Rattle.live_lines.specs.Own.{BeginsAnswer, IsFrameAt, IsOwed, OfBroadcast, OfSession, broadcast_behind, session_behind};
+ghost use Rattle.live_lines.specs.Own.{BeginsAnswer, IsFrameAt, IsOwed, OfBroadcast, OfSession, broadcast_behind, session_behind, own_session_opened, woken};
 ghost use Rattle.live_lines.specs.declared.answering.Answering.{Answering as AnyAnswering};
 ghost use Rattle.live_lines.specs.declared.own_broadcast.OwnBroadcast.{OwnBroadcast as AnyBroadcast};
 ghost use Rattle.live_lines.specs.declared.own_session.OwnSession.{OwnSession as AnySession};
 
-use crate::answering::{Answering, ask, forget, is_listed, place_due, place_of};
+use crate::answering::{Answering, ask, first_from, forget, is_listed, place_due, place_of, wake};
 use crate::own_broadcast::OwnBroadcast;
 use crate::own_session::{LEFT_ALONE, OwnSession};
 use can_frame::{Frame, GLOBAL_ADDRESS, Pgn};
+use std::alloc::{AllocError, Global};
 use transport::{Control, control_frame};
+use vehicle::{AnswerLine, Identification, LongLine};
 
 /// The groups that a unit answers beside its node: what of them goes to all, and to one.
 #[derive(Drop)]
@@ -84,15 +86,19 @@ impl OwnGroups {
     /// Opens a session of the group at this place with one who asked for it.
     pub(crate) fn open(&mut self, place: usize, pgn: Pgn, dest: u8)
         requires { self.old.session ≡ None }
-        ensures { self.new.session ≡ Some (record { place = place; pgn = pgn; dest = dest; next = 0; cleared = 0; alone_from = 0 }) }
+        ensures { self.new.session ≡ Some (own_session_opened place pgn dest) }
     {
         self.session = Some(OwnSession {
             place,
             pgn,
             dest,
             next: 0,
+            until: 0,
             cleared: 0,
             alone_from: 0,
+            reason: LEFT_ALONE,
+            again: 0,
+            times: 0,
         });
     }
 
@@ -133,11 +139,21 @@ impl OwnGroups {
         self.answer_due(source, from, may_begin)
     }
 
+    /// Likewise, where they go again and again: first those are asked for whose time has come.
+    pub(crate) fn due_again(&mut self, source: u8, now: u64, may_begin: bool) -> Option<Frame>
+        ensures owed { IfSome result
+            (IsOwed self.old.session self.old.broadcast may_begin (map (woken now) self.old.all.items) source now) }
+        ensures source { IfSome result (λ f. source_of f.id ≡ source) }
+    {
+        wake(self.all.as_mut_slice(), now);
+        self.due(source, now, may_begin)
+    }
+
     /// The next frame of the session; where it was left alone, its end.
     fn session_due(&mut self, source: u8, now: u64) -> Option<Frame>
         ensures owed { IfSome result (OfSession self.old.session self.old.all.items source now) }
         ensures source { IfSome result (λ f. source_of f.id ≡ source) }
-        ensures behind { (s : AnySession) → self.old.session ≡ Some s → s.next ≤ s.cleared
+        ensures behind { (s : AnySession) → self.old.session ≡ Some s → s.next ≤ s.until
             → IfSome result (λ _. self.new.session ≡ Some (session_behind s now)) }
         ensures waits { result ≡ None → self.new.session ≡ self.old.session }
         ensures others { (self.new.all ≡ self.old.all) × (self.new.broadcast ≡ self.old.broadcast) }
@@ -158,7 +174,7 @@ impl OwnGroups {
             return None;
         }
         self.session = None;
-        Some(parting(session.pgn, source, session.dest))
+        Some(parting(session.reason, session.pgn, source, session.dest))
     }
 
     /// The next packet of what goes to all; the one behind it goes from this time on.
@@ -205,9 +221,10 @@ impl OwnGroups {
         if place_due(&self.all, may_begin && self.broadcast.is_none()).is_some() {
             return 0;
         }
+        let asked = first_from(&self.all);
         let packet = match self.broadcast {
-            Some(broadcast) => broadcast.from,
-            None => u64::MAX,
+            Some(broadcast) => asked.min(broadcast.from),
+            None => asked,
         };
         match self.session {
             Some(session) if session.goes() => 0,
@@ -239,11 +256,39 @@ fn frame_at(all: &[Answering], place: usize, source: u8, dest: u8, number: u8) -
     }
 }
 
-/// The abort of a session that was left alone.
-fn parting(pgn: Pgn, source: u8, dest: u8) -> Frame
-    ensures frame { result ≡ messages.control_frame (Abort LEFT_ALONE pgn) source dest }
+/// The abort of a session with this reason.
+fn parting(reason: u8, pgn: Pgn, source: u8, dest: u8) -> Frame
+    ensures frame { result ≡ messages.control_frame (Abort reason pgn) source dest }
     ensures source { source_of result.id ≡ source }
 {
-    let reason = LEFT_ALONE;
     control_frame(Control::Abort { reason, pgn }, source, dest)
+}
+
+/// A group that goes in packets, and has not gone yet.
+pub(crate) fn repeated_of(long: LongLine) -> Answering {
+    let LongLine { line, period, .. } = long;
+    Answering::repeated(line, 1000 * u64::from(period))
+}
+
+/// What a unit answers beside its node, how it tells what it is before all else.
+pub(crate) fn groups_answered(
+    alloc: Global,
+    identification: Identification,
+    answers: Vec<AnswerLine>,
+    gap: u64,
+) -> Result<OwnGroups, AllocError> {
+    let Identification {
+        vin,
+        component,
+        software,
+        ecu,
+    } = identification;
+    let mut all = Vec::new(alloc);
+    for line in [vin, component, software, ecu].into_iter().flatten() {
+        all.push(Answering::new(line))?;
+    }
+    for line in answers {
+        all.push(Answering::new(line))?;
+    }
+    Ok(OwnGroups::new(all, gap))
 }

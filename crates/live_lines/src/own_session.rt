@@ -1,7 +1,8 @@
 //! An answer that goes to the one who asked for it, in packets.
 ghost use Rattle.std.specs.Prelude.{◌≡◌, ◌≤◌, ◌==◌, ◌↔◌, IsTrue};
 ghost use Rattle.parameter_group.specs.Group.{group_of};
-ghost use Rattle.live_lines.specs.Own.{session_behind, session_cleared, session_after_hearing, session_told};
+ghost use Rattle.live_lines.specs.Own.{session_after_hearing, session_again, session_behind, session_cleared, session_told};
+ghost use Rattle.live_lines.specs.Own as own;
 
 use can_frame::{Frame, Pgn};
 use live_unit::{ANSWER_WITHIN, HELD_FOR};
@@ -10,6 +11,12 @@ use transport::Control;
 
 /// The reason of an abort for want of an answer (SAE J1939-21).
 pub(crate) const LEFT_ALONE: u8 = 3;
+
+/// The reason of an abort where a packet was asked for too often (SAE J1939-21).
+pub(crate) const ASKED_TOO_OFTEN: u8 = 5;
+
+/// How often a packet is asked for again at most, where nothing behind it is.
+const MOST_AGAIN: u8 = 2;
 
 /// An answer that goes to the one who asked for it: which of a unit's it is, and how far it is.
 #[derive(Clone, Copy)]
@@ -21,31 +28,37 @@ pub(crate) struct OwnSession {
     pub(crate) dest: u8,
     /// The number of its next frame: 0 is the request to send.
     pub(crate) next: u16,
-    /// How many packets it was cleared to send.
+    /// The number of the last packet that goes now.
+    pub(crate) until: u8,
+    /// How many packets it was ever cleared to send.
     pub(crate) cleared: u8,
-    /// From when on it counts as left alone, where nothing of it goes.
+    /// From when on it counts as left alone, where nothing of it goes; and with which reason it ends then.
     pub(crate) alone_from: u64,
+    pub(crate) reason: u8,
+    /// The packet that was asked for again last, and how often it or an earlier one was since.
+    pub(crate) again: u8,
+    pub(crate) times: u8,
 }
 
 impl OwnSession {
     /// Whether a frame of it goes.
     pub(crate) fn goes(&self) -> bool
-        ensures { IsTrue result ↔ (self.now.next ≤ self.now.cleared) }
+        ensures { IsTrue result ↔ (self.now.next ≤ self.now.until) }
     {
-        self.next <= u16::from(self.cleared)
+        self.next <= u16::from(self.until)
     }
 
     /// The number of its next frame, where that goes.
     pub(crate) fn number(&self) -> u8
-        requires { self.now.next ≤ self.now.cleared }
+        requires { self.now.next ≤ self.now.until }
         ensures { result ≡ self.now.next }
     {
-        self.next.min(u16::from(self.cleared)) as u8
+        self.next.min(u16::from(self.until)) as u8
     }
 
     /// The session behind its next frame, which goes at this time.
     pub(crate) fn behind(self, now: u64) -> OwnSession
-        requires { self.next ≤ self.cleared }
+        requires { self.next ≤ self.until }
         ensures { result ≡ session_behind self now }
     {
         OwnSession {
@@ -112,19 +125,72 @@ impl OwnSession {
     fn cleared_to_send(self, last: u8, granted: u8, next: u8, now: u64) -> OwnSession
         ensures { result ≡ session_cleared self last granted next now }
     {
+        if self.reason == ASKED_TOO_OFTEN {
+            return self;
+        }
         if granted == 0 {
             return OwnSession {
                 alone_from: now.saturating_add(HELD_FOR),
                 ..self
             };
         }
+        if self.went(next) {
+            return self.asked_again(last, granted, next, now);
+        }
         if u16::from(next) != u16::from(self.cleared) + 1 {
             return self;
         }
-        let more = granted.min(last.saturating_sub(self.cleared));
+        let cleared = through(self.cleared, granted, last);
         OwnSession {
-            cleared: self.cleared.saturating_add(more),
+            next: if self.until == self.cleared {
+                self.next
+            } else {
+                u16::from(next)
+            },
+            until: cleared,
+            cleared,
             ..self
         }
     }
+
+    /// Whether a packet was cleared before, and does not wait to go.
+    fn went(&self, number: u8) -> bool
+        ensures { result ≡ own.went self.now number }
+    {
+        let waits = self.next <= u16::from(number) && number <= self.until;
+        1 <= number && number <= self.cleared && !waits
+    }
+
+    /// The session after packets were asked for again, from this one on: at the third time for one it is to end at once.
+    fn asked_again(self, last: u8, granted: u8, next: u8, now: u64) -> OwnSession
+        requires { 1 ≤ next }
+        ensures { result ≡ session_again self last granted next now }
+    {
+        let times = if next <= self.again { self.times } else { 0 };
+        if times >= MOST_AGAIN {
+            return OwnSession {
+                next: u16::from(self.until) + 1,
+                alone_from: now,
+                reason: ASKED_TOO_OFTEN,
+                ..self
+            };
+        }
+        let until = through(next - 1, granted, last);
+        OwnSession {
+            next: u16::from(next),
+            until,
+            cleared: self.cleared.max(until),
+            again: next,
+            times: times + 1,
+            ..self
+        }
+    }
+}
+
+/// The number of the last of so many packets behind one, where this is the last of all.
+fn through(before: u8, granted: u8, last: u8) -> u8
+    ensures { result ≡ own.through before granted last }
+{
+    let more = granted.min(last.saturating_sub(before));
+    before.saturating_add(more)
 }

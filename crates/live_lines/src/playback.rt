@@ -1,7 +1,7 @@
-//! Units whose clock is the times of the lines that they hear: nothing waits, and what they write is the same each time.
+//! Who takes part in a bus by the times of the lines that are heard: nothing waits, and what is written is the same each time.
 
 use crate::ear::{Ear, Heard};
-use crate::fleet::Fleet;
+use crate::on_bus::OnBus;
 use can_frame::Frame;
 use candump_line::{Time, write_line};
 use log_lines::{LinesEnd, LogFault};
@@ -11,10 +11,10 @@ use std::io::Write;
 /// How much later than the line before a line may be for what is due in between to be written: a day, in microseconds.
 const LONGEST_PAUSE: u64 = 86_400_000_000;
 
-/// Units, and the lines that they hear at the times of these.
+/// Who takes part in a bus, and the lines that are heard at the times of these.
 #[derive(Drop)]
-pub struct Playback {
-    fleet: Fleet,
+pub struct Playback<B> {
+    on_bus: B,
     ear: Ear,
     /// The greatest time of a line so far, in microseconds.
     clock: Option<u64>,
@@ -22,11 +22,11 @@ pub struct Playback {
     is_timed: bool,
 }
 
-impl Playback {
-    /// Units that have heard no line.
-    pub fn new(fleet: Fleet, ear: Ear) -> Playback {
+impl<B: OnBus> Playback<B> {
+    /// Who has heard no line.
+    pub fn new(on_bus: B, ear: Ear) -> Playback<B> {
         Playback {
-            fleet,
+            on_bus,
             ear,
             clock: None,
             is_timed: false,
@@ -34,7 +34,7 @@ impl Playback {
     }
 
     /// Takes a line, with its end. What is due before its time, or at it, is written first, each frame as a line with the time at
-    /// which it is due, and heard by the other units; then the units hear the frame of the line. A line without a time, or with an
+    /// which it is due, and heard by all who take part; then the frame of the line is heard. A line without a time, or with an
     /// earlier one than the line before, is heard at the time of that, or at 0 before any line had one. A bad line is told on
     /// `errors`. Answers whether the line is bad.
     ///
@@ -52,37 +52,69 @@ impl Playback {
     ) -> Result<bool, LogFault>
         requires { Unit {0} }
     {
-        let Heard { frame, is_bad } = self.ear.read(line, errors)?;
-        let Some((time, frame)) = frame else {
+        let Heard {
+            frame,
+            missed,
+            is_bad,
+        } = self.ear.read(line, errors)?;
+        if missed > 0 {
+            self.finish(alloc, writer, errors)?;
+            let now = self.clock.unwrap_or(0);
+            self.on_bus.miss(alloc, missed, now, errors);
+        }
+        let Some(heard) = frame else {
             return Ok(is_bad);
         };
-        if self.begins_anew(time) {
+        if self.begins_anew(heard.time) {
             self.clock = None;
         }
-        self.is_timed = self.is_timed || time.is_some();
-        let now = self.time_of(time);
-        self.write_until(alloc, now, writer)?;
-        self.fleet.hear(alloc, &frame, now);
+        self.is_timed = self.is_timed || heard.time.is_some();
+        let now = self.time_of(heard.time);
+        self.write_until(alloc, now, writer, errors)?;
+        self.on_bus.hear(alloc, &heard, now, errors);
         Ok(is_bad)
+    }
+
+    /// Whether the run ends now, though there may be more lines.
+    pub fn is_done(&self) -> bool {
+        self.on_bus.is_done()
     }
 
     /// Writes what is due at the time of the last line.
     ///
     /// # Errors
     /// `Write`: a line could not be written.
-    pub fn finish<W: Write>(&mut self, alloc: Global, writer: &mut W) -> Result<(), LogFault>
+    pub fn finish<W: Write, E: Write>(
+        &mut self,
+        alloc: Global,
+        writer: &mut W,
+        errors: &mut E,
+    ) -> Result<(), LogFault>
         requires { Unit {0} }
     {
         match self.clock {
-            Some(now) => self.write_until(alloc, now, writer),
+            Some(now) => self.write_until(alloc, now, writer, errors),
             None => Ok(()),
         }
     }
 
-    /// How the run ended whose lines ended so, at the end of the input or not. Tells a line for each unit.
+    /// Leaves the bus.
+    pub fn close<E: Write>(&mut self, errors: &mut E)
+        requires { Unit {0} }
+    {
+        let now = self.clock.unwrap_or(0);
+        self.on_bus.close(now, errors);
+    }
+
+    /// How the run ended whose lines ended so, at the end of the input or not. Tells what became of who took part.
     pub fn ended<E: Write>(&self, errors: &mut E, end: Result<bool, LogFault>) -> LinesEnd {
         let ended = self.ear.ended(errors, end);
-        self.fleet.ended(errors, ended)
+        self.on_bus.ended(errors, ended)
+    }
+
+    /// Whether all that was asked was granted.
+    pub fn is_content(&self) -> bool {
+        self.on_bus.is_content()
     }
 
     /// Whether the clock begins anew at a line with this time.
@@ -104,23 +136,25 @@ impl Playback {
         }
     }
 
-    /// Has the units write what is due up to a time, each frame when it is due.
-    fn write_until<W: Write>(
+    /// Writes what is due up to a time, each frame when it is due.
+    fn write_until<W: Write, E: Write>(
         &mut self,
         alloc: Global,
         until: u64,
         writer: &mut W,
+        errors: &mut E,
     ) -> Result<(), LogFault>
         requires { Unit {0} }
     {
         let mut now = self.clock.unwrap_or(until);
         for _ in 0..u64::MAX {
-            if let Some(frame) = self.fleet.step(alloc, now) {
+            if let Some(frame) = self.on_bus.step(alloc, now, errors) {
                 self.write(now, &frame, writer)?;
-                self.fleet.hear(alloc, &frame, now);
+                let written = self.ear.written(frame, Time::from_micros(now));
+                self.on_bus.echo(alloc, &written, now, errors);
                 continue;
             }
-            let next = self.fleet.next(now).max(now.saturating_add(1));
+            let next = self.on_bus.next(now).max(now.saturating_add(1));
             if next > until {
                 break;
             }

@@ -52,7 +52,7 @@ pub record KeepsItsOwn (u u' : SimulatedValue) : Type 0 where
 -- a frame was heard: what is owed for it came about; where it asks something of the unit, that agrees exactly if it is willing
 pub record HasHeardAs (f : FrameValue) (now : ℕ) (u u' : SimulatedValue) : Type 0 where
   pub answer : Answer
-  pub heard : HasHeardFrame f answer (standing_of u) (standing_of u')
+  pub heard : HasHeardFrame f u.clock.asked answer (standing_of u) (standing_of u')
   pub agrees : IsSome (question u.node f) → is_agreed answer ≡ is_willing u.kind
   pub clock : u'.clock ≡ clock_heard f u.name now u.node u.queue u'.node u'.queue u.clock
   pub keeps : KeepsItsOwn u u'

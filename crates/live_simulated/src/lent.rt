@@ -23,8 +23,8 @@ pub(crate) fn hear_by(
     now: u64,
     unit: &mut Simulated,
 ) -> Result<Answer, LiveError>
-    ensures heard { IfOk result (λ a. HasHeardFrame frame.now a (standing live.old.node unit.old.memory live.old.queue)
-        (standing live.new.node unit.new.memory live.new.queue)) }
+    ensures heard { IfOk result (λ a. HasHeardFrame frame.now live.old.clock.asked a
+        (standing live.old.node unit.old.memory live.old.queue) (standing live.new.node unit.new.memory live.new.queue)) }
     ensures agrees { IfOk result (λ a. IsSome (question live.old.node frame.now) → is_agreed a ≡ is_willing unit.old.kind) }
     ensures clock { OnOk result (live.new.clock ≡ clock_heard frame.now unit.old.name now live.old.node live.old.queue live.new.node
         live.new.queue live.old.clock) }

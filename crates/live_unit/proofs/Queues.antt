@@ -1,5 +1,5 @@
 -- From which address what waits is, after more was put.
-use Rattle.std.proofs.Common.{ℕ, ◌≡◌, ◌⊎◌, inl, inr, Bool, List, [], ◌∷◌, refl, sym, ◌∙◌}
+use Rattle.std.proofs.Common.{ℕ, ◌≡◌, ◌⊎◌, inl, inr, Bool, false, List, [], ◌∷◌, refl, sym, ap, ◌∙◌}
 use Rattle.node_core.specs.declared.heard.Heard.{Heard}
 use Rattle.node_core.specs.declared.heard.Withdraw.{Withdraw}
 use Rattle.node_core.specs.declared.heard.Withdraw.TheVariants as withdraw
@@ -28,3 +28,8 @@ source_withdrawing withdraw.All source q e = refl
 pub source_queued : (heard : Heard) (source : ℕ) (q : QueueValue) → (heard.withdraw ≡ withdraw.All) ⊎ (source ≡ q.source) → (after_heard heard source q).source ≡ source
 source_queued heard source q e =
     source_putting (goes_to_all heard.begun) heard.put (after_withdrawing heard.withdraw source q) ∙ source_withdrawing heard.withdraw source q e
+
+-- what is put in the place of a session
+pub source_again : (source : ℕ) (q q' q'' : QueueValue) (outs : List Out) → q' ≡ after_withdrawing withdraw.Session source q → q'' ≡ putting false outs q' → q''.source ≡ q.source
+source_again source q q' q'' outs e f =
+    ap (λ (x : QueueValue). x.source) f ∙ (source_putting false outs q' ∙ ap (λ (x : QueueValue). x.source) e)

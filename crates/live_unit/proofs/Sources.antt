@@ -65,7 +65,7 @@ part_source payload pgn source destination zero h =
     by_size (λ (f : FrameValue). source_of f.id ≡ source) _ _ _ (source_to_all 6 pgn source h) (source_to_one 7 60416 destination source h)
 part_source payload pgn source destination (suc j) h = source_to_one 7 60160 destination source h
 
-parts_source : (mark : ℕ → Part) (payload : List ℕ) (pgn source destination : ℕ) (js : List ℕ) → source < 256 → All (IsSentFrom source) (map (marked_part mark payload pgn source destination) js)
+pub parts_source : (mark : ℕ → Part) (payload : List ℕ) (pgn source destination : ℕ) (js : List ℕ) → source < 256 → All (IsSentFrom source) (map (marked_part mark payload pgn source destination) js)
 parts_source mark payload pgn source destination [] h = All-nil (IsSentFrom source)
 parts_source mark payload pgn source destination (j ∷ js) h =
     All-cons (IsSentFrom source) (marked_part mark payload pgn source destination j) (map (marked_part mark payload pgn source destination) js) (part_source payload pgn source destination j h)

@@ -1,5 +1,5 @@
 -- What one call changes of a unit that takes part in a bus.
-use Rattle.std.specs.Prelude.{ℕ, ◌≡◌, ◌⊎◌, ◌≤◌, ◌<◌, Bool, true, false, nat_le, Some, slice_get, if◌then◌else◌}
+use Rattle.std.specs.Prelude.{ℕ, ◌≡◌, ◌∷◌, [], ◌⊎◌, ◌≤◌, ◌<◌, Bool, true, false, nat_le, Option, None, Some, is_some, slice_get, if◌then◌else◌}
 use Rattle.can_frame.specs.FrameValue.{FrameValue}
 use Rattle.can_frame.specs.declared.address.TheConstants.{GLOBAL_ADDRESS}
 use Rattle.transport.specs.declared.control.Control.{Control}
@@ -12,13 +12,18 @@ use Rattle.dm_messages.specs.declared.kind.Kind.{Kind}
 use Rattle.dm_messages.specs.declared.kind.Kind.TheVariants.{Dm1}
 use Rattle.node_core.specs.Asking.{IsAnswerTo, is_agreed}
 use Rattle.node_core.specs.NodeValue.{NodeValue, is_open}
-use Rattle.node_core.specs.Deed.{EndsSession, after_deed, parts_begun}
+use Rattle.node_core.specs.Deed.{EndsSession, after_deed, parts_begun, plain}
 use Rattle.node_core.specs.GivingUp.{given_up, is_held_open}
 use Rattle.node_core.specs.Reaction.{Reacts, noted_from, question}
 use Rattle.node_core.specs.Staying.{is_commanded_to_stay}
 use Rattle.node_core.specs.declared.heard.Answer.{Answer}
+use Rattle.node_core.specs.declared.heard.Answer.TheVariants.{NotAsked}
 use Rattle.node_core.specs.declared.heard.Heard.{Heard}
+use Rattle.node_core.specs.declared.heard.Withdraw.TheVariants as withdraw
 use Rattle.node_core.specs.declared.out.Out.{Out}
+use Rattle.node_core.specs.declared.session.OpenSession.{OpenSession}
+use Rattle.live_unit.specs.declared.again.Retransmission.{Retransmission}
+use Rattle.live_unit.specs.declared.clock.Asked.{Asked}
 use Rattle.live_unit.specs.declared.clock.UnitClock.{UnitClock}
 use Rattle.live_unit.specs.declared.clock.UnitSettings.{UnitSettings}
 use Rattle.live_unit.specs.declared.told.TheConstants.{DM1_PERIOD}
@@ -26,7 +31,8 @@ use Rattle.live_unit.specs.declared.queue.Lane.{Lane}
 use Rattle.live_unit.specs.declared.queue.TheConstants.{MOST_PUT}
 use Rattle.live_unit.specs.declared.node.Act.{Act}
 use Rattle.live_unit.specs.declared.node.Act.TheVariants as act
-use Rattle.live_unit.specs.Queue.{HasFreeLanes, QueueValue, TakesFirst, claiming_anew, lane_of, putting, after_heard}
+use Rattle.live_unit.specs.Again.{abort_too_often, again_by, asked_then, is_too_often, parts_again, rest_again}
+use Rattle.live_unit.specs.Queue.{HasFreeLanes, QueueValue, TakesFirst, claiming_anew, lane_of, putting, after_heard, after_withdrawing}
 use Rattle.live_unit.specs.Telling.{after_telling}
 use Rattle.live_unit.specs.Times.{clock_after_hearing, clock_cut, clock_written, is_cut, is_dm1_due, is_left_alone, lane_due}
 use Rattle.live_unit.specs.Waits.{later}
@@ -56,14 +62,49 @@ pub record HasStayed (f : FrameValue) (answer : Answer) (u u' : Standing) : Type
   pub queue : u'.queue ≡ (if is_agreed answer then claiming_anew (claim_frame_value u.node.claimer.name u.node.claimer.held) u.queue else u.queue)
 
 -- a frame was heard: such a command, or any other
-pub record HasHeardFrame (f : FrameValue) (answer : Answer) (u u' : Standing) : Type 0 where
+pub record HasHeardBesides (f : FrameValue) (answer : Answer) (u u' : Standing) : Type 0 where
   pub stays : is_commanded_to_stay u.node (group_of f) ≡ true → HasStayed f answer u u'
   pub in_full : is_commanded_to_stay u.node (group_of f) ≡ false → HasHeardInFull f answer u u'
+
+-- packets of the open session go again: what of it waits is withdrawn, those that were put before are put once more, and the node hears of
+-- the rest
+pub record SendsAgain (r : Retransmission) (s : OpenSession) (answer : Answer) (u u' : Standing) : Type 0 where
+  pub heard : Heard
+  pub answer_is : heard.answer ≡ answer
+  pub reacts : Reacts (rest_again s.sending (claim_source u.node.claimer.held) r) u.node u.memory heard u'.node u'.memory
+  pub queue : u'.queue ≡ after_heard heard (claim_source u'.node.claimer.held)
+      (putting false (parts_again s.sending (claim_source u.node.claimer.held) r)
+      (after_withdrawing withdraw.Session (claim_source u.node.claimer.held) u.queue))
+
+-- the open session ends by an abort (reason 5)
+pub record EndsAsked (s : OpenSession) (answer : Answer) (u u' : Standing) : Type 0 where
+  pub unasked : answer ≡ NotAsked
+  pub node : u'.node ≡ after_deed u.node EndsSession
+  pub memory : u'.memory ≡ u.memory
+  pub queue : u'.queue ≡ putting false (plain (abort_too_often s.sending (claim_source u.node.claimer.held)) ∷ [])
+      (after_withdrawing withdraw.Session (claim_source u.node.claimer.held) u.queue)
+
+-- packets of the open session were asked for again: they go again, but that the session ends where it was for one too often
+pub record HasHeardAgain (r : Retransmission) (asked : Asked) (answer : Answer) (u u' : Standing) : Type 0 where
+  pub session : OpenSession
+  pub of : u.node.session ≡ Some session
+  pub again : is_too_often asked r.first ≡ false → SendsAgain r session answer u u'
+  pub ends : is_too_often asked r.first ≡ true → EndsAsked session answer u u'
+
+-- a frame was heard, by a unit that was asked for packets so often: what asks for packets again, or any other
+abbrev pub HasHeardBy : Option Retransmission → FrameValue → Asked → Answer → Standing → Standing → Type 0
+HasHeardBy (Some r) f asked answer u u' = HasHeardAgain r asked answer u u'
+HasHeardBy None f asked answer u u' = HasHeardBesides f answer u u'
+
+abbrev pub HasHeardFrame : FrameValue → Asked → Answer → Standing → Standing → Type 0
+HasHeardFrame f asked answer u u' = HasHeardBy (again_by u.node u.queue (group_of f)) f asked answer u u'
 
 -- the times after a frame was heard by the unit of this NAME: what it was and what waited before and after that
 abbrev pub clock_heard : FrameValue → ℕ → ℕ → NodeValue → QueueValue → NodeValue → QueueValue → UnitClock → UnitClock
 clock_heard f name now node q node' q' c =
-    clock_cut (is_cut q q') now (clock_after_hearing (is_held_open node (group_of f)) node.claimer.held node'.claimer.held name now c)
+    record (clock_cut (is_cut q q') now (clock_after_hearing (is_held_open node (group_of f)) node.claimer.held node'.claimer.held name now c)) {
+      asked = asked_then (again_by node q (group_of f)) (is_some node.session) c.asked;
+    }
 
 -- a request, a request to send and a clear to send may put something beside what waits; whatever else puts something withdraws all
 abbrev pub control_needs_room : Control → Bool

@@ -11,13 +11,14 @@ use Rattle.live_unit.specs.declared.clock.UnitSettings.{UnitSettings}
 use Rattle.live_unit.specs.declared.clock.TheConstants.{ANSWER_WITHIN, HELD_FOR, LONGEST_PAUSE}
 use Rattle.live_unit.specs.declared.queue.Lane.{Lane}
 use Rattle.live_unit.specs.declared.queue.Lane.TheVariants.{Claims, Singles, Session, Messages}
+use Rattle.live_unit.specs.Again.{never_asked}
 use Rattle.live_unit.specs.Queue.{LaneValue, QueueValue, waits}
 use Rattle.live_unit.specs.Telling.{has_to_tell, is_change_due, told_nothing, told_something}
 use Rattle.live_unit.specs.Waits.{later}
 
 -- nothing was written yet, so nothing is put off
 abbrev pub clock_at_start : UnitClock
-clock_at_start = record { claim_from = 0; claimed = false; settled_from = 0; packet_from = 0; alone_from = 0; dm1_from = 0; told = told_nothing }
+clock_at_start = record { claim_from = 0; claimed = false; settled_from = 0; packet_from = 0; alone_from = 0; dm1_from = 0; told = told_nothing; asked = never_asked }
 
 -- ---- what is written when
 

@@ -56,8 +56,8 @@ pub(crate) fn hear_in(
     now: u64,
     unit: &mut Box<dyn Unit>,
 ) -> Result<Answer, LiveError>
-    ensures heard { IfOk result (λ a. HasHeardFrame frame.now a (standing live.old.node (memory_of unit.old) live.old.queue)
-        (standing live.new.node (memory_of unit.new) live.new.queue)) }
+    ensures heard { IfOk result (λ a. HasHeardFrame frame.now live.old.clock.asked a
+        (standing live.old.node (memory_of unit.old) live.old.queue) (standing live.new.node (memory_of unit.new) live.new.queue)) }
     ensures clock { OnOk result (live.new.clock ≡ clock_heard frame.now (name_of unit.old) now live.old.node live.old.queue live.new.node
         live.new.queue live.old.clock) }
     ensures asked { IfOk result (λ a. (u : _) × (unit.new ≡ record unit.old { value = u })

@@ -1,9 +1,12 @@
-ghost use Rattle.std.specs.Prelude.{◌≡◌, IfOk, nat_le};
+ghost use Rattle.std.specs.Prelude.{◌≡◌, ◌+◌, IfOk, nat_le, if◌then◌else◌};
 ghost use Rattle.live_unit.specs.Times.{clock_after_hearing, clock_at_start, clock_cut, clock_written, pause_of};
 ghost use Rattle.live_unit.specs.Waits.{later};
 ghost use Rattle.live_unit.specs.Telling.{after_telling};
+ghost use Rattle.live_unit.specs.Again.{never_asked};
+ghost use Rattle.live_unit.specs.Again as spec;
 ghost use Rattle.live_unit.specs.Times as times;
 
+use crate::again::{MOST_AGAIN, Retransmission};
 use crate::queue::Lane;
 use crate::told::{DM1_PERIOD, Told};
 use fault_memory::FaultMemory;
@@ -30,6 +33,64 @@ pub struct UnitSettings {
     pub always: bool,
 }
 
+/// Which packet of the open session was asked for again last, and how often it or an earlier one was; 0 and 0 where none was.
+#[derive(Clone, Copy, PartialEq, Eq)]
+pub struct Asked {
+    pub packet: u8,
+    pub times: u8,
+}
+
+impl Asked {
+    /// None was.
+    fn never() -> Asked
+        ensures { result ≡ never_asked }
+    {
+        Asked {
+            packet: 0,
+            times: 0,
+        }
+    }
+
+    /// How often this packet, or an earlier one, was asked for again before.
+    fn times_before(self, number: u8) -> u8
+        ensures { result ≡ spec.times_before self number }
+    {
+        if number <= self.packet { self.times } else { 0 }
+    }
+
+    /// Whether it was so as often as it is sent again.
+    pub(crate) fn is_too_often(self, number: u8) -> bool
+        ensures { result ≡ spec.is_too_often self number }
+    {
+        self.times_before(number) >= MOST_AGAIN
+    }
+
+    /// After a frame was heard that asks for these packets again, or for none; and whether a session was open.
+    fn after(self, again: Option<Retransmission>, has_session: bool) -> Asked
+        ensures { result ≡ spec.asked_then again has_session self }
+    {
+        match again {
+            Some(again) if again.again == 0 => self,
+            Some(again) => self.behind(again.first),
+            None if has_session => self,
+            None => Asked::never(),
+        }
+    }
+
+    /// After this packet was asked for again.
+    fn behind(self, number: u8) -> Asked
+        ensures { result ≡ (if spec.is_too_often self number then never_asked else record { packet = number; times = spec.times_before self number + 1 }) }
+    {
+        if self.is_too_often(number) {
+            return Asked::never();
+        }
+        Asked {
+            packet: number,
+            times: self.times_before(number) + 1,
+        }
+    }
+}
+
 /// From when on a unit may do what, in microseconds of its caller's clock, and what it told of its faults.
 #[derive(Drop)]
 pub struct UnitClock {
@@ -47,6 +108,8 @@ pub struct UnitClock {
     pub dm1_from: u64,
     /// What its DM1s of its own told.
     pub told: Told,
+    /// Which packets of the open session went again.
+    pub asked: Asked,
 }
 
 impl UnitClock {
@@ -62,6 +125,7 @@ impl UnitClock {
             alone_from: 0,
             dm1_from: 0,
             told: Told::nothing(alloc),
+            asked: Asked::never(),
         }
     }
 
@@ -100,6 +164,14 @@ impl UnitClock {
             self.claim_from = now.saturating_add(pause(name));
         }
         self.claimed = self.claimed && is_same_address(before, after);
+    }
+
+    /// What was asked for again after a frame was heard that asks for these packets, or for none; and whether a session was open
+    /// before it.
+    pub(crate) fn ask(&mut self, again: Option<Retransmission>, has_session: bool)
+        ensures { self.new ≡ record self.old { asked = spec.asked_then again has_session self.old.asked } }
+    {
+        self.asked = self.asked.after(again, has_session);
     }
 
     /// The times after a message to all of which frames waited was withdrawn, if one was.

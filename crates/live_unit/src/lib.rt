@@ -4,6 +4,7 @@
 //! frame that it answers is for its caller to write.
 #![tactic(auto)]
 
+mod again;
 mod boxed;
 mod clock;
 mod error;
@@ -13,7 +14,7 @@ mod told;
 mod unit;
 mod waiting;
 
-pub use clock::{ANSWER_WITHIN, HELD_FOR, UnitClock, UnitSettings};
+pub use clock::{ANSWER_WITHIN, Asked, HELD_FOR, UnitClock, UnitSettings};
 pub use error::LiveError;
 pub use node::{Act, LiveNode, frame_from, lane_due};
 pub use queue::{Lane, MOST_PUT, Queue, QueueCounts};

@@ -9,12 +9,14 @@ ghost use Rattle.parameter_group.specs.Group.{group_of};
 ghost use Rattle.node_core.specs.Deed.{plain};
 ghost use Rattle.live_unit.specs.Queue.{HasFreeLanes, empty_queue, frames_waiting, putting};
 ghost use Rattle.node_core.specs.Staying.{is_commanded_to_stay};
-ghost use Rattle.live_unit.specs.Steps.{Acts, BeginsToAll, CanPut, GivesUp, HasHeardFrame, HasHeardInFull, HasStayed, LacksRoomFor, Writes, clock_heard, standing};
+ghost use Rattle.live_unit.specs.Again.{again_by};
+ghost use Rattle.live_unit.specs.Steps.{Acts, BeginsToAll, CanPut, GivesUp, HasHeardBesides, HasHeardFrame, HasHeardInFull, HasStayed, LacksRoomFor, Writes, clock_heard, standing};
 ghost use Rattle.live_unit.specs.Steps as steps;
 ghost use Rattle.live_unit.specs.Times.{clock_at_start, is_dm1_due, is_free_for_dm1, is_left_alone, lane_due};
 ghost use Rattle.live_unit.specs.Telling as telling;
 ghost use Rattle.live_unit.specs.Times as times;
 
+use crate::again::{Retransmission, again_by, end_asked, send_again};
 use crate::clock::{UnitClock, UnitSettings};
 use crate::error::LiveError;
 use crate::queue::{Lane, MOST_PUT, Queue, QueueCounts};
@@ -101,6 +103,8 @@ impl LiveNode {
     /// address. What it owes for the frame is withdrawn and put as `node_core` has it; it is asked exactly what the frame puts to
     /// it, in one call, and is else as it was. A frame of its own, which the bus told it of, it hears as any other: it owes nothing
     /// for it. A command to hold the address that is held cuts nothing: its claim goes, where the unit agreed (SAE J1939-81).
+    /// A clear to send of packets of its session that went already has these go again, twice at most for the same packet: then the
+    /// session ends by an abort of reason 5 (SAE J1939-21).
     ///
     /// Refused: `Full`, where as much waits as there is room for and the frame is a request, a request to send or a clear to send;
     /// `OutOfMemory`. Then nothing changed, and the unit was not asked.
@@ -111,8 +115,8 @@ impl LiveNode {
         now: u64,
         unit: &mut dyn Unit,
     ) -> Result<Answer, LiveError>
-        ensures heard { IfOk result (λ a. HasHeardFrame frame.now a (standing self.old.node (memory_of unit.old) self.old.queue)
-            (standing self.new.node (memory_of unit.new) self.new.queue)) }
+        ensures heard { IfOk result (λ a. HasHeardFrame frame.now self.old.clock.asked a
+            (standing self.old.node (memory_of unit.old) self.old.queue) (standing self.new.node (memory_of unit.new) self.new.queue)) }
         ensures clock { OnOk result (self.new.clock ≡ clock_heard frame.now (name_of unit.old) now self.old.node self.old.queue self.new.node
             self.new.queue self.old.clock) }
         ensures asked { IfOk result (λ a. (u : _) × (unit.new ≡ (unit.old.0, u))
@@ -130,14 +134,50 @@ impl LiveNode {
         }
         let is_held_open = self.node.is_held_open(frame);
         let waited = self.queue.waits(Lane::Messages);
+        let has_session = self.node.session().is_some();
+        let again = again_by(&self.node, &self.queue, frame);
         let before = self.node.held();
-        let answer = hear_frame(&mut self.node, &mut self.queue, alloc, frame, unit)?;
+        let answer = self.hear_any(alloc, frame, again, unit)?;
         let after = self.node.held();
         let is_cut = waited && !self.queue.waits(Lane::Messages);
         self.clock
             .hear(is_held_open, before, after, now, unit.name());
         self.clock.cut(is_cut, now);
+        self.clock.ask(again, has_session);
         Ok(answer)
+    }
+
+    /// Hears a frame, for which there is room, that asks for these packets again, or for none.
+    ///
+    /// Where memory is refused nothing changed, and the unit was not asked.
+    fn hear_any(
+        &mut self,
+        alloc: Global,
+        frame: &Frame,
+        again: Option<Retransmission>,
+        unit: &mut dyn Unit,
+    ) -> Result<Answer, LiveError>
+        requires few { self.old.queue.put < MOST_PUT }
+        requires room { (steps.needs_room (group_of frame.now) ≡ false) ⊎ HasFreeLanes self.old.queue }
+        requires again { again ≡ again_by self.old.node self.old.queue (group_of frame.now) }
+        ensures heard { IfOk result (λ a. HasHeardFrame frame.now self.old.clock.asked a
+            (standing self.old.node (memory_of unit.old) self.old.queue) (standing self.new.node (memory_of unit.new) self.new.queue)) }
+        ensures asked { IfOk result (λ a. (u : _) × (unit.new ≡ (unit.old.0, u))
+            × IsAsked (Answers unit.old) (question self.old.node frame.now) a unit.old.1 u) }
+        ensures name { name_of unit.new ≡ name_of unit.old }
+        ensures same { (self.new.clock ≡ self.old.clock) × (self.new.settings ≡ self.old.settings) }
+        ensures only { IfErr result (λ e. e ≡ LiveError.OutOfMemory) }
+        ensures err { OnErr result ((self.new.node ≡ self.old.node) × (self.new.queue ≡ self.old.queue)) }
+        ensures unasked { OnErr result (unit.new ≡ unit.old) }
+    {
+        let Some(again) = again else {
+            return hear_frame(&mut self.node, &mut self.queue, alloc, frame, unit);
+        };
+        if self.clock.asked.is_too_often(again.first) {
+            end_asked(&mut self.node, &mut self.queue);
+            return Ok(Answer::NotAsked);
+        }
+        send_again(&mut self.node, &mut self.queue, alloc, again, unit)
     }
 
     /// The frame that goes at this time, if one does. It is written, as far as the unit knows: there is no way back.
@@ -339,7 +379,7 @@ fn hear_frame(
     requires sourced { queue.old.source ≡ claim_source node.old.claimer.held }
     requires few { queue.old.put < MOST_PUT }
     requires room { (steps.needs_room (group_of frame.now) ≡ false) ⊎ HasFreeLanes queue.old }
-    ensures heard { IfOk result (λ a. HasHeardFrame frame.now a (standing node.old (memory_of unit.old) queue.old)
+    ensures heard { IfOk result (λ a. HasHeardBesides frame.now a (standing node.old (memory_of unit.old) queue.old)
         (standing node.new (memory_of unit.new) queue.new)) }
     ensures asked { IfOk result
         (λ a. (u : _) × (unit.new ≡ (unit.old.0, u)) × IsAsked (Answers unit.old) (question node.old frame.now) a unit.old.1 u) }
@@ -441,7 +481,7 @@ fn begin_to_all(
 }
 
 /// The address from which a node sends: the one that it holds, or 254.
-fn source_of(node: &Node) -> u8
+pub(crate) fn source_of(node: &Node) -> u8
     ensures { result ≡ claim_source node.now.claimer.held }
 {
     match node.held() {

@@ -117,7 +117,7 @@ impl Queue {
     pub fn waits(&self, lane: Lane) -> bool
         ensures { result ≡ waits (lane_of lane self.now) }
     {
-        self.lane(lane).frames() > 0
+        self.frames(lane) > 0
     }
 
     /// The first frame of the lane.
@@ -125,6 +125,13 @@ impl Queue {
         ensures { result ≡ slice_get (lane_of lane self.now).outs 0 }
     {
         self.lane(lane).first()
+    }
+
+    /// How many frames wait in the lane.
+    pub(crate) fn frames(&self, lane: Lane) -> u64
+        ensures { result ≡ length (lane_of lane self.now).outs }
+    {
+        self.lane(lane).frames()
     }
 
     fn lane(&self, lane: Lane) -> &Waiting

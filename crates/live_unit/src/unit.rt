@@ -92,7 +92,7 @@ impl LiveUnit {
     /// Refused: `Full`, `OutOfMemory`. Then nothing changed, and the unit was not asked.
     pub fn hear(&mut self, alloc: Global, frame: &Frame, now: u64) -> Result<Answer, LiveError>
         requires { Unit {0} }
-        ensures heard { IfOk result (λ a. HasHeardFrame frame.now a
+        ensures heard { IfOk result (λ a. HasHeardFrame frame.now self.old.live.clock.asked a
             (standing self.old.live.node (memory_of self.old.unit) self.old.live.queue)
             (standing self.new.live.node (memory_of self.new.unit) self.new.live.queue)) }
         ensures clock { OnOk result (self.new.live.clock ≡ clock_heard frame.now (name_of self.old.unit) now self.old.live.node

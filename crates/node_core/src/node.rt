@@ -1,4 +1,4 @@
-ghost use Rattle.std.specs.Prelude.{◌≡◌, ◌<◌, ◌≤◌, ◌^◌, ◌↔◌, IfOk, IfErr, OnErr, IfSome, IsSome, IsErrOf, IsNone, Ok, length, option_map, true, false};
+ghost use Rattle.std.specs.Prelude.{◌≡◌, ◌<◌, ◌≤◌, ◌^◌, ◌↔◌, IfOk, IfErr, OnErr, IfSome, IsSome, IsErrOf, IsNone, Ok, length, option_copied, option_map, true, false};
 ghost use Rattle.can_frame.specs.declared.address.TheConstants.{GREATEST_ADDRESS};
 ghost use Rattle.address_claim.specs.Frames.{claim_frame_value};
 
@@ -15,6 +15,7 @@ use name_field::Name;
 use parameter_group::ParameterGroup;
 use std::alloc::Global;
 use std::marker::Model;
+use transport::Sending;
 use unit_trait::Unit;
 
 mod absorbing;
@@ -86,6 +87,16 @@ impl Node {
     {
         match &self.session {
             Some(session) => Some(session.kind),
+            None => None,
+        }
+    }
+
+    /// What the open session sends, and how many of its packets were queued.
+    pub fn sending(&self) -> Option<&Sending>
+        ensures { option_copied result ≡ option_map (λ s. s.sending) self.now.session }
+    {
+        match &self.session {
+            Some(session) => Some(&session.sending),
             None => None,
         }
     }

@@ -4,5 +4,6 @@ mod CodeLemmas
 mod SendLemmas
 mod FieldLemmas
 mod MotionLemmas
+mod PeriodLemmas
 mod SumLemmas
 mod FrameLemmas

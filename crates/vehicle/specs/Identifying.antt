@@ -16,10 +16,14 @@ is_printable c = nat_le 32 c && nat_le c 126
 abbrev pub IsPrintable : List ℕ → Type 0
 IsPrintable text = All (λ c. is_printable c ≡ true) text
 
--- two digits for each byte at the key "bytes", or the text at the key "text"
+-- two digits for each byte at the key "bytes"
+abbrev pub HasLongBytes : Data → List ℕ → Type 0
+HasLongBytes d bytes = (text : List ℕ) × (text_at (codes "bytes") d ≡ Some text) × (decode_of text ≡ Ok bytes)
+
+-- these, or the text at the key "text"
 abbrev pub HasBytesOrText : Data → List ℕ → Type 0
 HasBytesOrText d bytes =
-    ((get (codes "text") d ≡ None) × (text : List ℕ) × (text_at (codes "bytes") d ≡ Some text) × (decode_of text ≡ Ok bytes))
+    ((get (codes "text") d ≡ None) × HasLongBytes d bytes)
     ⊎ ((get (codes "bytes") d ≡ None) × (text_at (codes "text") d ≡ Some bytes) × IsPrintable bytes)
 
 -- no group is answered twice

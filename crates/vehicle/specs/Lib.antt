@@ -1,5 +1,6 @@
 pub mod Apart
 pub mod Checksum
+pub mod Fails
 pub mod Fields
 pub mod Frames
 pub mod Holding

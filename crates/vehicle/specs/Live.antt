@@ -1,5 +1,5 @@
 -- Which units a TOML document describes, as they take part in a real bus.
-use Rattle.std.specs.Prelude.{ℕ, ◌≡◌, ◌≢◌, ◌⊎◌, ◌/◌, ◌%◌, ◌≤◌, true, List, [], ◌∷◌, ◌++◌, Option, Some, None, codes, length}
+use Rattle.std.specs.Prelude.{ℕ, ◌≡◌, ◌≢◌, ◌⊎◌, ◌/◌, ◌%◌, ◌≤◌, ◌<◌, true, List, [], ◌∷◌, ◌++◌, Option, Some, None, codes, length}
 use Rattle.std.specs.List.{All, AllPairs}
 use Rattle.hex_text.specs.Hex.{IsHexText, hex_value}
 use Rattle.toml.specs.Data.{Data, get, as_str}
@@ -8,15 +8,19 @@ use Rattle.unit_trait.specs.declared.kind.UnitKind.{UnitKind}
 use Rattle.trouble_code.specs.Code.{Code, IsCode}
 use Rattle.trouble_code.specs.LampBytes.{LampsValue, lamps_off, lamps_value}
 use Rattle.vehicle.specs.Fields.{HoldsChecksumAt, HoldsFieldsAt}
-use Rattle.vehicle.specs.Sending.{SpellsBytes, is_free_group}
-use Rattle.vehicle.specs.Identifying.{HasBytesOrText, HaveDistinctGroups, HoldsIdentification, IsBeside}
-use Rattle.vehicle.specs.Holding.{EachHoldsAt, HasNumber, HasOnly, HoldsUnitOf, keys_by, text_at}
-use Rattle.vehicle.specs.declared.sends.TheConstants.{LEAST_PERIOD, MOST_PERIOD, USUAL_PRIORITY}
-use Rattle.vehicle.specs.declared.send_line.TheConstants.{GREATEST_PGN, LOWEST_PRIORITY}
+use Rattle.vehicle.specs.Fails.{HoldsFailsAt}
+use Rattle.vehicle.specs.Sending.{HasBytes, HoldsPriorityAt, is_free_group}
+use Rattle.vehicle.specs.Identifying.{HasBytesOrText, HasLongBytes, HaveDistinctGroups, HoldsIdentification, IsBeside}
+use Rattle.vehicle.specs.Holding.{EachHoldsAt, HasNumber, HasOnly, HoldsUnitOf, keys_by}
+use Rattle.vehicle.specs.declared.sends.TheConstants.{LEAST_PERIOD, MOST_PERIOD}
+use Rattle.vehicle.specs.declared.send_line.TheConstants.{GREATEST_PGN}
 use Rattle.vehicle.specs.declared.codes.TheConstants.{MOST_OCCURRENCES}
 use Rattle.vehicle.specs.declared.answer_line.AnswerLine.{AnswerLine}
 use Rattle.vehicle.specs.declared.send_line.SendLine.{SendLine}
 use Rattle.vehicle.specs.declared.live.LiveLine.{LiveLine}
+use Rattle.vehicle.specs.declared.long_line.CyclicLine.{CyclicLine}
+use Rattle.vehicle.specs.declared.long_line.CyclicLine.TheVariants.{Long, One}
+use Rattle.vehicle.specs.declared.long_line.LongLine.{LongLine}
 use Rattle.vehicle.specs.declared.live.Memory.{Memory}
 
 -- ---- lamps and codes
@@ -57,16 +61,8 @@ HoldsCodesAt = EachHoldsAt HoldsCode
 
 -- ---- what is sent again and again
 
--- the priority at the key "priority"; the usual one where there is no such key
-abbrev pub HoldsPriorityAt : Data → ℕ → Type 0
-HoldsPriorityAt d priority =
-    ((get (codes "priority") d ≡ None) × (priority ≡ USUAL_PRIORITY)) ⊎ HasNumber d (codes "priority") priority 0 LOWEST_PRIORITY
-
-abbrev pub HasBytes : Data → List ℕ → Type 0
-HasBytes d bytes = (text : List ℕ) × (text_at (codes "bytes") d ≡ Some text) × SpellsBytes text bytes
-
--- a group, its priority, its period in milliseconds, its bytes, and what of these moves; nothing else
-pub record HoldsSend (d : Data) (s : SendLine) : Type 0 where
+-- in one frame: a group, its priority, its period in milliseconds, its bytes, and what of these moves; nothing else
+pub record HoldsOne (d : Data) (s : SendLine) : Type 0 where
   pub only : HasOnly (codes "pgn" ∷ codes "priority" ∷ codes "period" ∷ codes "bytes" ∷ codes "fields" ∷ codes "checksum" ∷ []) d
   pub pgn : HasNumber d (codes "pgn") s.pgn 0 GREATEST_PGN
   pub free : is_free_group s.pgn ≡ true
@@ -76,8 +72,22 @@ pub record HoldsSend (d : Data) (s : SendLine) : Type 0 where
   pub fields : HoldsFieldsAt (get (codes "fields") d) s.fields.items
   pub checksum : HoldsChecksumAt (get (codes "checksum") d) s.checksum
 
+-- in packets: a group, its priority, its period in milliseconds and its bytes; nothing else
+pub record HoldsLong (d : Data) (s : LongLine) : Type 0 where
+  pub only : HasOnly (codes "pgn" ∷ codes "priority" ∷ codes "period" ∷ codes "bytes" ∷ []) d
+  pub pgn : HasNumber d (codes "pgn") s.line.pgn 0 GREATEST_PGN
+  pub free : is_free_group s.line.pgn ≡ true
+  pub priority : HoldsPriorityAt d s.line.priority
+  pub period : HasNumber d (codes "period") s.period LEAST_PERIOD MOST_PERIOD
+  pub bytes : HasLongBytes d s.line.bytes.items
+  pub several : 8 < length s.line.bytes.items
+
+abbrev pub HoldsSend : Data → CyclicLine → Type 0
+HoldsSend d (One s) = HoldsOne d s
+HoldsSend d (Long s) = HoldsLong d s
+
 -- one for each table, in order; none where there is no such key
-abbrev pub HoldsSendsAt : Option Data → List SendLine → Type 0
+abbrev pub HoldsSendsAt : Option Data → List CyclicLine → Type 0
 HoldsSendsAt = EachHoldsAt HoldsSend
 
 -- ---- what is sent where it is asked for
@@ -100,9 +110,9 @@ HoldsAnswersAt = EachHoldsAt HoldsAnswer
 abbrev pub live_keys_of_kind : UnitKind → List (List ℕ)
 live_keys_of_kind kind = keys_by kind
     (codes "name" ∷ codes "address" ∷ codes "kind" ∷ codes "lamps" ∷ codes "active" ∷ codes "previous" ∷ codes "pending" ∷ codes "sends" ∷ codes "answers"
-    ∷ codes "vin" ∷ codes "component" ∷ codes "software" ∷ codes "ecu" ∷ [])
+    ∷ codes "fails" ∷ codes "vin" ∷ codes "component" ∷ codes "software" ∷ codes "ecu" ∷ [])
     (codes "name" ∷ codes "address" ∷ codes "kind" ∷ codes "spn" ∷ codes "fmi" ∷ codes "lamps" ∷ codes "active" ∷ codes "previous" ∷ codes "pending" ∷ codes "sends" ∷ codes "answers"
-    ∷ codes "vin" ∷ codes "component" ∷ codes "software" ∷ codes "ecu" ∷ [])
+    ∷ codes "fails" ∷ codes "vin" ∷ codes "component" ∷ codes "software" ∷ codes "ecu" ∷ [])
 
 -- the codes with which a unit begins
 pub record HoldsMemory (d : Data) (m : Memory) : Type 0 where
@@ -119,6 +129,7 @@ pub record HoldsRest (d : Data) (u : LiveLine) : Type 0 where
   pub sends : HoldsSendsAt (get (codes "sends") d) u.sends.items
   pub answers : HoldsAnswersAt (get (codes "answers") d) u.answers.items
   pub identification : HoldsIdentification d u.identification
+  pub fails : HoldsFailsAt (get (codes "fails") d) u.fails.items
   pub apart : HaveDistinctGroups u.answers.items
   -- and none by which it tells what it is stands there too
   pub beside : All (λ a. IsBeside u.identification a.pgn) u.answers.items

@@ -1,10 +1,13 @@
 -- What a unit may send again and again.
-use Rattle.std.specs.Prelude.{ℕ, ◌≡◌, ◌-◌, ◌*◌, ◌≤◌, ◌==◌, ◌&&◌, ◌||◌, Bool, true, not, nat_le, List, drop, length}
+use Rattle.std.specs.Prelude.{ℕ, ◌≡◌, ◌⊎◌, ◌-◌, ◌*◌, ◌≤◌, ◌==◌, ◌&&◌, ◌||◌, Bool, true, not, nat_le, List, Some, None, codes, drop, length}
 use Rattle.std.specs.Int.{to_be_bytes, w64}
 use Rattle.can_frame.specs.Fields.{pdu_format_of_pgn}
 use Rattle.can_frame.specs.declared.group_numbers.TheConstants.{DM1, DM2, DM3, DM6, DM11, COMMANDED_ADDRESS}
 use Rattle.hex_text.specs.Hex.{IsHexText, hex_value}
+use Rattle.toml.specs.Data.{Data, get}
+use Rattle.vehicle.specs.Holding.{HasNumber, text_at}
 use Rattle.vehicle.specs.declared.answer_line.TheConstants.{MOST_BYTES}
+use Rattle.vehicle.specs.declared.sends.TheConstants.{USUAL_PRIORITY}
 use Rattle.vehicle.specs.declared.send_line.TheConstants.{GREATEST_PGN, LOWEST_PRIORITY}
 
 -- a group of diagnostics or of the protocol, of those that go to all: by the rules a unit sends it, or obeys it
@@ -37,3 +40,12 @@ pub record SpellsBytes (text bytes : List ℕ) : Type 0 where
   pub most : length bytes ≤ 8
   pub digits : IsHexText (2 * length bytes) text
   pub are : bytes ≡ drop (8 - length bytes) (to_be_bytes w64 (hex_value text))
+
+-- the priority at the key "priority"; the usual one where there is no such key
+abbrev pub HoldsPriorityAt : Data → ℕ → Type 0
+HoldsPriorityAt d priority =
+    ((get (codes "priority") d ≡ None) × (priority ≡ USUAL_PRIORITY)) ⊎ HasNumber d (codes "priority") priority 0 LOWEST_PRIORITY
+
+-- two digits for each of at most eight bytes at the key "bytes"
+abbrev pub HasBytes : Data → List ℕ → Type 0
+HasBytes d bytes = (text : List ℕ) × (text_at (codes "bytes") d ≡ Some text) × SpellsBytes text bytes

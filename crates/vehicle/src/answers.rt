@@ -5,7 +5,7 @@ ghost use Rattle.hex.specs.Hex.{decode_of};
 ghost use Rattle.toml.specs.Data.{get};
 ghost use Rattle.toml.specs.View.{view, items_view};
 ghost use Rattle.vehicle.specs.Holding.{EachHolds, text_at};
-ghost use Rattle.vehicle.specs.Identifying.{HasBytesOrText, HaveDistinctGroups, IsBeside, IsPrintable};
+ghost use Rattle.vehicle.specs.Identifying.{HasBytesOrText, HasLongBytes, HaveDistinctGroups, IsBeside, IsPrintable};
 ghost use Rattle.vehicle.specs.Identifying as identifying;
 ghost use Rattle.vehicle.specs.Live.{HoldsAnswer, HoldsAnswersAt};
 
@@ -74,8 +74,12 @@ fn read_said(alloc: Global, place: KeyPlace, value: &Value) -> Result<Vec<u8>, R
 }
 
 /// The bytes that the key "bytes" spells, two digits each.
-fn read_long_bytes(alloc: Global, place: KeyPlace, value: &Value) -> Result<Vec<u8>, ReadError<'_>>
-    ensures said { IfOk result (λ bytes. (text : _) × (text_at (codes "bytes") (view value.now) ≡ Some text) × (decode_of text ≡ Ok bytes.items)) }
+pub(crate) fn read_long_bytes(
+    alloc: Global,
+    place: KeyPlace,
+    value: &Value,
+) -> Result<Vec<u8>, ReadError<'_>>
+    ensures said { IfOk result (λ bytes. HasLongBytes (view value.now) bytes.items) }
     ensures some { IfOk result (λ bytes. 1 ≤ length bytes.items) }
     ensures most { IfOk result (λ bytes. length bytes.items ≤ MOST_BYTES) }
 {

@@ -22,6 +22,11 @@ pub(crate) enum KeyPlace {
         unit: usize,
         number: usize,
     },
+    /// That of a fault of a unit, counted likewise.
+    Fail {
+        unit: usize,
+        number: usize,
+    },
     /// That of a field of a group which a unit sends, counted likewise.
     Field {
         unit: usize,
@@ -69,8 +74,6 @@ pub(crate) enum KeyFault {
     /// Its text is no code.
     NotCode,
     /// Its text spells no bytes.
-    NotBytes,
-    /// Its text spells no bytes, of those that may be many.
     NotLongBytes,
     /// A text stands there, too.
     BesideText,
@@ -100,6 +103,14 @@ pub(crate) enum KeyFault {
     Outside { found: i64, least: u32, most: u32 },
     /// No unit sends the group of this number as it likes.
     NotFree(u32),
+    /// Its group goes in packets, in which nothing moves.
+    InPackets,
+    /// The group of this number does not go to all.
+    NotToAll(u32),
+    /// Its text tells no fault.
+    NotDeviation,
+    /// It is less than so many milliseconds.
+    TooShort(u64),
 }
 
 impl KeyPlace {
@@ -112,6 +123,7 @@ impl KeyPlace {
             KeyPlace::Unit(_) => "unit",
             KeyPlace::Send { .. } => "unit.sends",
             KeyPlace::Answer { .. } => "unit.answers",
+            KeyPlace::Fail { .. } => "unit.fails",
             KeyPlace::Field { .. } => "unit.sends.fields",
             KeyPlace::Checksum { .. } => "unit.sends.checksum",
         }
@@ -136,7 +148,6 @@ impl KeyFault {
             KeyFault::NotKind => "plain, guarded or flicker",
             KeyFault::NotLamps => "4 hexadecimal digits",
             KeyFault::NotCode => "SPN/FMI or SPN/FMI/COUNT",
-            KeyFault::NotBytes => "1 to 8 bytes of two hexadecimal digits each",
             KeyFault::NotLongBytes => "1 to 1785 bytes of two hexadecimal digits each",
             KeyFault::BesideText => "bytes or text, not both",
             KeyFault::NotPrintable => "a character is not of ASCII, or is a control character",
@@ -148,11 +159,17 @@ impl KeyFault {
             KeyFault::NoNumbers => "no array of whole numbers",
             KeyFault::NoValue => "at least one value is wanted",
             KeyFault::Beyond => "it has a bit beyond the bytes",
+            KeyFault::NotDeviation => {
+                "drop, delay, twice, number, short, zeros, old, babble or steal"
+            }
+            KeyFault::InPackets => "nothing moves in more than 8 bytes",
             KeyFault::Outside { .. }
             | KeyFault::NotFree(_)
             | KeyFault::NotSoLong(_)
             | KeyFault::OfUnit(_)
-            | KeyFault::OfField(_) => "",
+            | KeyFault::OfField(_)
+            | KeyFault::NotToAll(_)
+            | KeyFault::TooShort(_) => "",
         }
     }
 
@@ -164,9 +181,9 @@ impl KeyFault {
                 | KeyFault::NotKind
                 | KeyFault::NotLamps
                 | KeyFault::NotCode
-                | KeyFault::NotBytes
                 | KeyFault::NotLongBytes
                 | KeyFault::NotMotion
+                | KeyFault::NotDeviation
                 | KeyFault::NotOrder
         )
     }
@@ -273,6 +290,8 @@ impl KeyError<'_> {
             KeyFault::NotSoLong(most) => write!(f, "1 to {most} characters are wanted"),
             KeyFault::OfUnit(place) => write!(f, "unit {place} has this NAME"),
             KeyFault::OfField(place) => write!(f, "field {place} has a bit of it"),
+            KeyFault::NotToAll(pgn) => write!(f, "{pgn} does not go to all"),
+            KeyFault::TooShort(least) => write_too_short(f, least),
             wrong => self.write_words(f, wrong),
         }
     }
@@ -294,6 +313,14 @@ fn write_not_free<W: fmt::Write>(f: &mut fmt::Formatter<W>, pgn: u32) -> fmt::Re
     write!(
         f,
         "{pgn} does not go to all, or is of the protocol or of diagnostics"
+    )
+}
+
+/// Writes that packets would take more than half of a period.
+fn write_too_short<W: fmt::Write>(f: &mut fmt::Formatter<W>, least: u64) -> fmt::Result {
+    write!(
+        f,
+        "at least {least} are wanted, twice what the unit's packets take"
     )
 }
 

@@ -50,7 +50,7 @@
 //!
 //! [[unit.sends]]              # a group that it sends again and again
 //! pgn = 61444                 # one that goes to all
-//! bytes = "F07D84A61F00F07D"  # 1 to 8
+//! bytes = "F07D84A61F00F07D"  # 1 to 1785; of more than 8 none moves
 //! period = 100                # 10 to 60000 ms
 //! priority = 3                # 0 to 7; 6 where it is left out
 //! checksum = { start = 60, length = 4 }   # where each frame bears its checksum
@@ -62,6 +62,14 @@
 //! order = "intel"             # or "motorola"; "intel" where it is left out
 //! least = 0
 //! most = 7
+//!
+//! [[unit.fails]]              # what it does wrong on purpose
+//! kind = "drop"               # or "delay", "twice", "number", "short", "zeros", "old", "babble", "steal"
+//! after = 2000                # ms; 0 where it is left out
+//! count = 3                   # how often; once, where "time", in ms, is left out too
+//! group = 65226               # of which frames; of all where it is left out
+//! share = 10                  # of 100 of these, as numbers from a seed choose them; 100 where it is left out
+//! seed = 7
 //! ```
 #![tactic(auto)]
 
@@ -70,6 +78,8 @@ mod answer_line;
 mod answers;
 mod checksum;
 mod codes;
+mod fail_line;
+mod fails;
 mod fault;
 mod field_bits;
 mod fields;
@@ -77,9 +87,11 @@ mod identification;
 mod key_error;
 mod lines;
 mod live;
+mod long_line;
 mod motion;
 mod moving_field;
 mod moving_value;
+mod periods;
 mod putting;
 mod read;
 mod room;
@@ -88,10 +100,13 @@ mod sending;
 mod sends;
 
 pub use answer_line::AnswerLine;
+pub use fail_line::{Deviation, FailLine};
+pub use fails::read_fail;
 pub use fault::VehicleFault;
 pub use field_bits::{ByteOrder, FieldBits};
 pub use identification::Identification;
 pub use live::{LiveLine, read_live_units};
+pub use long_line::{CyclicLine, LongLine};
 pub use motion::{Counter, Motion, Ramp, ValueList};
 pub use moving_field::MovingField;
 use name_field::Name;

@@ -47,6 +47,8 @@ struct Headers {
     fields: usize,
     /// How many groups the last unit answers.
     answers: usize,
+    /// How many faults it has.
+    fails: usize,
 }
 
 impl Headers {
@@ -58,6 +60,7 @@ impl Headers {
             sends: 0,
             fields: 0,
             answers: 0,
+            fails: 0,
         }
     }
 
@@ -69,12 +72,14 @@ impl Headers {
                 self.units = self.units.saturating_add(1);
                 self.sends = 0;
                 self.answers = 0;
+                self.fails = 0;
             }
             "unit.sends" => {
                 self.sends = self.sends.saturating_add(1);
                 self.fields = 0;
             }
             "unit.sends.fields" => self.fields = self.fields.saturating_add(1),
+            "unit.fails" => self.fails = self.fails.saturating_add(1),
             "unit.answers" => self.answers = self.answers.saturating_add(1),
             _ => {}
         }
@@ -95,6 +100,10 @@ impl Headers {
             "unit.answers" => Some(KeyPlace::Answer {
                 unit,
                 number: self.answers,
+            }),
+            "unit.fails" => Some(KeyPlace::Fail {
+                unit,
+                number: self.fails,
             }),
             "unit.sends.fields" => Some(KeyPlace::Field {
                 unit,

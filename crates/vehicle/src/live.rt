@@ -5,17 +5,21 @@ ghost use Rattle.toml.specs.Data.{Members, get, table};
 ghost use Rattle.toml.specs.Parse.{parse_document};
 ghost use Rattle.toml.specs.View.{view, items_view};
 ghost use Rattle.vehicle.specs.Holding.{EachHolds, HoldsUnitOf};
+ghost use Rattle.vehicle.specs.Frames.{LeavesHalf};
 ghost use Rattle.vehicle.specs.Live.{HaveDistinctNames, HoldsLiveUnit, HoldsLiveUnits, HoldsMemory, HoldsRest, live_keys_of_kind};
 
 use crate::UnitLine;
 use crate::answer_line::AnswerLine;
 use crate::answers::{look_at_groups, read_answers};
 use crate::codes::{read_codes, read_lamps_of};
+use crate::fail_line::FailLine;
+use crate::fails::read_fails;
 use crate::fault::VehicleFault;
 use crate::identification::{Identification, read_identification};
 use crate::key_error::{KeyFault, KeyPlace, ReadError};
+use crate::long_line::CyclicLine;
+use crate::periods::look_at_periods;
 use crate::read::{fault_of, has_document_keys, items_at, read_station, read_unit_of, second_of};
-use crate::send_line::SendLine;
 use crate::sends::read_sends;
 use name_field::Name;
 use std::alloc::Global;
@@ -36,11 +40,13 @@ pub struct LiveLine {
     /// Its pending codes, likewise.
     pub pending: Vec<Dtc>,
     /// What it sends again and again.
-    pub sends: Vec<SendLine>,
+    pub sends: Vec<CyclicLine>,
     /// What it sends where it is asked for it: no group twice, and none of those by which it tells what it is.
     pub answers: Vec<AnswerLine>,
     /// How it tells what it is where it is asked.
     pub identification: Identification,
+    /// What it does wrong on purpose.
+    pub fails: Vec<FailLine>,
 }
 
 /// Reads the units of a vehicle's text, a TOML document, as they take part in a real bus.
@@ -48,24 +54,43 @@ pub struct LiveLine {
 /// The tables `station` and `second` are those that [`read_vehicle`](crate::read_vehicle) reads; here they may both be left out.
 /// Each table of the array `unit` may have, beside the keys that it reads, `lamps`, `active`, `previous` and `pending`, and an
 /// array of tables `sends` with the keys `pgn`, `bytes` and `period`, and `priority`, `checksum` and an array of tables `fields`, which
-/// may be left out, and an array of tables `answers` with `pgn` and `bytes` or `text`, and `priority`; and `vin`, `component`, `software`
+/// may be left out, and an array of tables `answers` with `pgn` and `bytes` or `text`, and `priority`; an array of tables `fails`, as [`read_fail`](crate::read_fail) reads one; and `vin`, `component`, `software`
 /// and `ecu`, by which it tells what it is. No other key may stand anywhere. Whether a unit can hold its codes together is not looked at:
 /// that no code stands twice, and that they are 445 at most.
 ///
+/// Packets go so many milliseconds apart (`gap`): of what a unit sends again and again in packets, each period is at least twice the
+/// time that all of it takes.
+///
 /// # Errors
 /// - `Refused`: the text is no TOML, a key is missing or not known, a value is of another type or out of its range, both
-///   stations or two units have one NAME (SAE J1939-81: each unit of a network has its own), a unit answers one group twice, or there is no unit.
+///   stations or two units have one NAME (SAE J1939-81: each unit of a network has its own), a unit answers one group twice, a period
+///   is too short, or there is no unit.
 /// - `Memory`: memory ran out.
-pub fn read_live_units(alloc: Global, text: &str) -> Result<Vec<LiveLine>, VehicleFault>
+pub fn read_live_units(alloc: Global, text: &str, gap: u32) -> Result<Vec<LiveLine>, VehicleFault>
+    ensures spare { IfOk result (λ units. All (λ u. LeavesHalf gap u.sends.items) units.items) }
     ensures holds { IfOk result (λ units. (t : Members) × (parse_document text.now ≡ Some t) × HoldsLiveUnits (table t) units.items) }
 {
     let root = match toml::table_from_str(alloc, text) {
         Ok(table) => Value::Table(table),
         Err(error) => return Err(fault_of(alloc, text, &error)),
     };
-    match units_of(alloc, &root) {
+    match spare_units(alloc, &root, gap) {
         Ok(units) => Ok(units),
         Err(unread) => Err(unread.told(alloc, text)),
+    }
+}
+
+/// The units that a document describes, where their packets leave half of each period.
+fn spare_units(alloc: Global, root: &Value, gap: u32) -> Result<Vec<LiveLine>, ReadError<'_>>
+    ensures spare { IfOk result (λ units. All (λ u. LeavesHalf gap u.sends.items) units.items) }
+    ensures holds { IfOk result (λ units. HoldsLiveUnits (view root.now) units.items) }
+{
+    match units_of(alloc, root) {
+        Ok(units) => match look_at_periods(gap, units.as_slice()) {
+            Ok(()) => Ok(units),
+            Err(unread) => Err(unread),
+        },
+        Err(unread) => Err(unread),
     }
 }
 
@@ -169,6 +194,7 @@ fn read_rest(
     let answers = read_answers(alloc, number, value)?;
     let identification = read_identification(alloc, place, value)?;
     look_at_groups(number, &identification, answers.as_slice())?;
+    let fails = read_fails(alloc, number, value)?;
     match read_sends(alloc, number, value) {
         Ok(sends) => Ok(LiveLine {
             unit,
@@ -179,6 +205,7 @@ fn read_rest(
             sends,
             answers,
             identification,
+            fails,
         }),
         Err(unread) => Err(unread),
     }
@@ -201,6 +228,7 @@ fn read_live_unit(place: KeyPlace, value: &Value) -> Result<UnitLine, ReadError<
             "pending",
             "sends",
             "answers",
+            "fails",
             "vin",
             "component",
             "software",
@@ -218,6 +246,7 @@ fn read_live_unit(place: KeyPlace, value: &Value) -> Result<UnitLine, ReadError<
             "pending",
             "sends",
             "answers",
+            "fails",
             "vin",
             "component",
             "software",

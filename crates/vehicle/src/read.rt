@@ -404,6 +404,7 @@ fn why_not(place: KeyPlace, key: &str) -> KeyFault {
         "pending",
         "sends",
         "answers",
+        "fails",
         "vin",
         "component",
         "software",
@@ -411,6 +412,7 @@ fn why_not(place: KeyPlace, key: &str) -> KeyFault {
     ];
     match place {
         KeyPlace::Unit(_) if is_among(key, of_live) => KeyFault::OfLive,
+        KeyPlace::Send { .. } if is_among(key, &["fields", "checksum"]) => KeyFault::InPackets,
         _ => KeyFault::NotKnown,
     }
 }

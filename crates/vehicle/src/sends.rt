@@ -3,12 +3,16 @@ ghost use Rattle.std.specs.Prelude.{◌≡◌, ◌≤◌, ◌<◌, ◌↔◌, If
 ghost use Rattle.toml.specs.Data.{get};
 ghost use Rattle.toml.specs.View.{view, items_view};
 ghost use Rattle.vehicle.specs.Holding.{EachHolds, HasNumber};
-ghost use Rattle.vehicle.specs.Live.{HasBytes, HoldsPriorityAt, HoldsSend, HoldsSendsAt};
-ghost use Rattle.vehicle.specs.Sending.{SpellsBytes};
+ghost use Rattle.vehicle.specs.Identifying.{HasLongBytes};
+ghost use Rattle.vehicle.specs.Live.{HoldsLong, HoldsOne, HoldsSend, HoldsSendsAt};
+ghost use Rattle.vehicle.specs.Sending.{HasBytes, HoldsPriorityAt, SpellsBytes};
 ghost use Rattle.vehicle.specs.Sending as sending;
 
+use crate::answer_line::{AnswerLine, MOST_BYTES};
+use crate::answers::read_long_bytes;
 use crate::fields::{read_checksum, read_fields};
 use crate::key_error::{KeyFault, KeyPlace, ReadError};
+use crate::long_line::{CyclicLine, LongLine};
 use crate::read::{has_only, items_at, read_number, read_text};
 use crate::room::look_at_room;
 use crate::send_line::{GREATEST_PGN, LOWEST_PRIORITY, SendLine};
@@ -31,14 +35,14 @@ pub(crate) fn read_sends(
     alloc: Global,
     unit: usize,
     value: &Value,
-) -> Result<Vec<SendLine>, ReadError<'_>>
+) -> Result<Vec<CyclicLine>, ReadError<'_>>
     ensures { IfOk result (λ sends. HoldsSendsAt (get (codes "sends") (view value.now)) sends.items) }
 {
     let items = items_at(KeyPlace::Unit(unit), value, "sends", KeyFault::NoTables)?;
     sends_of(alloc, unit, items)
 }
 
-fn sends_of(alloc: Global, unit: usize, items: &[Value]) -> Result<Vec<SendLine>, ReadError<'_>>
+fn sends_of(alloc: Global, unit: usize, items: &[Value]) -> Result<Vec<CyclicLine>, ReadError<'_>>
     ensures { IfOk result (λ sends. EachHolds HoldsSend (items_view items.now) sends.items) }
 {
     let mut sends = Vec::new(alloc);
@@ -54,8 +58,38 @@ fn read_send(
     unit: usize,
     number: usize,
     value: &Value,
-) -> Result<SendLine, ReadError<'_>>
+) -> Result<CyclicLine, ReadError<'_>>
     ensures { IfOk result (HoldsSend (view value.now)) }
+{
+    if is_long(value) {
+        match read_long(alloc, KeyPlace::Send { unit, number }, value) {
+            Ok(line) => Ok(CyclicLine::Long(line)),
+            Err(unread) => Err(unread),
+        }
+    } else {
+        match read_one(alloc, unit, number, value) {
+            Ok(line) => Ok(CyclicLine::One(line)),
+            Err(unread) => Err(unread),
+        }
+    }
+}
+
+/// Whether a group says more than one frame holds: two digits for a byte.
+fn is_long(value: &Value) -> bool {
+    match value.get("bytes") {
+        Some(found) => found.as_str().is_some_and(|text| text.len() > 16),
+        None => false,
+    }
+}
+
+/// A group that goes in one frame.
+fn read_one(
+    alloc: Global,
+    unit: usize,
+    number: usize,
+    value: &Value,
+) -> Result<SendLine, ReadError<'_>>
+    ensures { IfOk result (HoldsOne (view value.now)) }
 {
     let place = KeyPlace::Send { unit, number };
     has_only(
@@ -78,6 +112,36 @@ fn read_send(
         fields,
         checksum,
     })
+}
+
+/// A group that goes in packets.
+fn read_long(alloc: Global, place: KeyPlace, value: &Value) -> Result<LongLine, ReadError<'_>>
+    ensures { IfOk result (HoldsLong (view value.now)) }
+{
+    has_only(place, value, &["pgn", "priority", "period", "bytes"])?;
+    let pgn = read_pgn(place, value)?;
+    let priority = read_priority(place, value)?;
+    let period = read_number(place, value, "period", LEAST_PERIOD, MOST_PERIOD)?;
+    let bytes = read_several(alloc, place, value)?;
+    let line = AnswerLine {
+        pgn,
+        priority,
+        bytes,
+    };
+    Ok(LongLine { line, period })
+}
+
+/// The bytes of a group that goes in packets.
+fn read_several(alloc: Global, place: KeyPlace, value: &Value) -> Result<Vec<u8>, ReadError<'_>>
+    ensures said { IfOk result (λ bytes. HasLongBytes (view value.now) bytes.items) }
+    ensures several { IfOk result (λ bytes. 8 < length bytes.items) }
+    ensures most { IfOk result (λ bytes. length bytes.items ≤ MOST_BYTES) }
+{
+    match read_long_bytes(alloc, place, value) {
+        Ok(bytes) if bytes.len() > 8 => Ok(bytes),
+        Ok(_) => Err(ReadError::at(place, "bytes", KeyFault::NotLongBytes)),
+        Err(unread) => Err(unread),
+    }
 }
 
 pub(crate) fn read_pgn(place: KeyPlace, value: &Value) -> Result<u32, ReadError<'_>>
@@ -120,13 +184,17 @@ pub(crate) fn read_priority(place: KeyPlace, value: &Value) -> Result<u8, ReadEr
     }
 }
 
-fn read_bytes(alloc: Global, place: KeyPlace, value: &Value) -> Result<Vec<u8>, ReadError<'_>>
+pub(crate) fn read_bytes(
+    alloc: Global,
+    place: KeyPlace,
+    value: &Value,
+) -> Result<Vec<u8>, ReadError<'_>>
     ensures { IfOk result (λ bytes. HasBytes (view value.now) bytes.items) }
 {
     let text = read_text(place, value, "bytes")?;
     match bytes_of(alloc, text)? {
         Some(bytes) => Ok(bytes),
-        None => Err(ReadError::of_text(place, "bytes", text, KeyFault::NotBytes)),
+        None => Err(ReadError::of_text(place, "bytes", text, KeyFault::NotLongBytes)),
     }
 }
 

@@ -37,8 +37,8 @@ returns-clause-heard c =
     let same' = ap (λ (v : Simulated). v.memory) r
     ∙ (sym (carried_sameᵐ _ _ entry-1-1 (own-1.entry at-1-1) same-1-1 _ (λ j y. j.1.memory_of y.now) c.unit-1.given.0)
     ∙ ap (λ z. (own-1.entry z.now.0).1.memory_of z.now.1) p) in
-    subst (λ m. IfOk c.hear.result (λ a. HasHeardFrame c.args.frame.now a (standing before.node c.args.unit.now.memory before.queue) (standing after.node m after.queue))) (sym same')
-    (subst (λ m. IfOk c.hear.result (λ a. HasHeardFrame c.args.frame.now a (standing before.node m before.queue) (standing after.node ((own-1.entry at-1-1).1.memory_of c.hear.new.unit) after.queue)))
+    subst (λ m. IfOk c.hear.result (λ a. HasHeardFrame c.args.frame.now before.clock.asked a (standing before.node c.args.unit.now.memory before.queue) (standing after.node m after.queue))) (sym same')
+    (subst (λ m. IfOk c.hear.result (λ a. HasHeardFrame c.args.frame.now before.clock.asked a (standing before.node m before.queue) (standing after.node ((own-1.entry at-1-1).1.memory_of c.hear.new.unit) after.queue)))
     (carried_sameᵐ _ _ entry-1-1 (own-1.entry at-1-1) same-1-1 _ (λ j y. j.1.memory_of y.now) (lent_unit c))
     c.hear.ensures.heard)
 

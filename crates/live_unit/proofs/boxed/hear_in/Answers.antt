@@ -9,7 +9,7 @@ pub returns-clause-heard : goal.returns-clause-heard
 returns-clause-heard g c =
     let q = c.deref_box_mut-1.result.now in let before = c.args.live.now in let after = c.hear.new.self in
     let memory' = (goal.Unit-dyn g q).memory_of c.hear.new.unit in
-    subst (λ s. IfOk c.hear.result (λ a. HasHeardFrame c.args.frame.now a (standing before.node ((goal.Unit-dyn g s).memory_of s.1) before.queue) (standing after.node memory' after.queue)))
+    subst (λ s. IfOk c.hear.result (λ a. HasHeardFrame c.args.frame.now before.clock.asked a (standing before.node ((goal.Unit-dyn g s).memory_of s.1) before.queue) (standing after.node memory' after.queue)))
     c.deref_box_mut-1.ensures.value.1 c.hear.ensures.heard
 
 pub returns-clause-clock : goal.returns-clause-clock

@@ -1,9 +1,10 @@
-"""A bus for tests of `live`: it plays candump and canplayer for each program on it.
+"""A bus for tests of `live` and `tester`: it plays candump and canplayer for each program on it.
 
 What any program writes goes to all of them, its writer too, in the order in which it came, as the kernel's loopback does it.
 """
 import queue
 import subprocess
+import sys
 import threading
 import time
 
@@ -24,7 +25,15 @@ class Bus:
 
     def start(self, *words, hears_only=False):
         """Starts the program with these words; answers its number."""
-        program = subprocess.Popen(called(*words), stdin=subprocess.PIPE, stdout=subprocess.PIPE, stderr=subprocess.PIPE)
+        return self.join(called(*words), hears_only)
+
+    def start_unit(self, name, address, *switches):
+        """Starts a unit of tests/lib/plain_unit.py; answers its number."""
+        return self.join([sys.executable, str(TOP / "tests/lib/plain_unit.py"), name, str(address), *map(str, switches)])
+
+    def join(self, command, hears_only=False):
+        """Starts a command; answers its number."""
+        program = subprocess.Popen(command, stdin=subprocess.PIPE, stdout=subprocess.PIPE, stderr=subprocess.PIPE)
         number = len(self.programs)
         self.programs.append(program)
         program.told = []

@@ -12,7 +12,7 @@ use Rattle.command_line.specs.declared.fault.LineFault.{LineFault}
 use Rattle.command_line.specs.declared.fault.LineFault.TheVariants.{Help, Refused}
 use Rattle.command_line.specs.declared.options.CommandOption.{CommandOption}
 use Rattle.command_line.specs.declared.options.Given.{Given}
-use Rattle.command_line.specs.declared.options.Given.TheVariants.{Alone, Always, Flag, Often, Once}
+use Rattle.command_line.specs.declared.options.Given.TheVariants.{Alone, Always, Flag, Often, Once, Rest}
 
 -- `--NAME N`, which must be given
 abbrev pub count_rule : Text → Rule
@@ -34,6 +34,10 @@ list_rule name = record (new_rule name) { long = Some name; action = Some Append
 abbrev pub place_rule : Text → Rule
 place_rule name = record (new_rule name) { action = Some Set; value_names = 1 }
 
+-- `VALUE`, which may be given more than once
+abbrev pub rest_rule : Text → Rule
+rest_rule name = record (new_rule name) { action = Some Append; value_names = 1 }
+
 -- what an option of a subcommand is to `clap`
 abbrev pub given_rule : Given → Text → Rule
 given_rule Flag name = flag_rule name
@@ -41,6 +45,7 @@ given_rule Once name = value_rule name
 given_rule Often name = list_rule name
 given_rule Always name = count_rule name
 given_rule Alone name = place_rule name
+given_rule Rest name = rest_rule name
 
 abbrev pub option_rule : CommandOption → Rule
 option_rule option = given_rule option.given option.name.now
@@ -79,6 +84,12 @@ live_shape = subcommand_shape (codes "live")
     (value_rule (codes "bus") ∷ value_rule (codes "control") ∷ value_rule (codes "dm1") ∷ value_rule (codes "gap") ∷ value_rule (codes "settle")
     ∷ value_rule (codes "pace") ∷ value_rule (codes "times") ∷ flag_rule (codes "strict") ∷ place_rule (codes "file") ∷ [])
 
+abbrev pub tester_shape : Shape
+tester_shape = subcommand_shape (codes "tester")
+    (value_rule (codes "name") ∷ value_rule (codes "address") ∷ value_rule (codes "grant") ∷ value_rule (codes "bus") ∷ value_rule (codes "control")
+    ∷ value_rule (codes "gap") ∷ value_rule (codes "settle") ∷ value_rule (codes "pace") ∷ value_rule (codes "times") ∷ value_rule (codes "format")
+    ∷ flag_rule (codes "strict") ∷ flag_rule (codes "yes") ∷ rest_rule (codes "order") ∷ [])
+
 -- the command `j1939bench`: it has a version, and wants one of its subcommands
 abbrev pub named_app : App
 named_app = on_top (λ s. record s { has_version = true; subcommand_required = true }) (new_app (codes "j1939bench"))
@@ -93,7 +104,7 @@ abbrev pub lines_app : App
 lines_app = with_subcommand (with_subcommand wire_app watch_shape) decode_shape
 
 abbrev pub bench_app : App
-bench_app = with_subcommand lines_app live_shape
+bench_app = with_subcommand (with_subcommand lines_app live_shape) tester_shape
 
 -- what `clap` finds wrong with the words, where it finds anything
 abbrev pub faults_in : List Text → Kinds

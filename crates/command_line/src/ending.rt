@@ -8,7 +8,7 @@ use std::alloc::Global;
 use std::process::ExitCode;
 
 /// The status of a run. One that ended early is told on standard error: the line of its fault, and what is told behind it. (Of bad
-/// lines each was told before.)
+/// lines, and of orders, each was told before.)
 pub fn ended<R: Eprint>(rt: &R, ran: Result<(), Failure>) -> ExitCode
     ensures done { IfOk ran (λ _. exit_status result ≡ 0) }
     ensures status { IfErr ran (λ failure. exit_status result ≡ status_of failure.fault) }
@@ -24,7 +24,7 @@ pub fn ended<R: Eprint>(rt: &R, ran: Result<(), Failure>) -> ExitCode
 
 fn tell<R: Eprint>(rt: &R, failure: &Failure) {
     let fault = failure.fault;
-    if fault != Fault::BadLines {
+    if fault != Fault::BadLines && fault != Fault::Orders {
         let _ = eprintln!(rt; "{fault}");
     }
     if let Some(words) = &failure.words {

@@ -14,6 +14,7 @@ mod live;
 mod options;
 mod reading;
 mod script;
+mod tester;
 mod threads;
 mod watch;
 mod words;

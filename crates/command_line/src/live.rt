@@ -24,6 +24,7 @@ The file of --control, which may be a named pipe, has a line for each order; I i
   dm1 I                  the unit begins a DM1
   counts I               its frames put, written, withdrawn, waiting
   leave I                it is taken off the bus
+  fail I kind = \"drop\"   it does something wrong on purpose, as a table unit.fails has it
 
 Answers go to standard error with the number of the order's line, as order 3: ok, and at the end of the input a line for each unit.
 Status: 0 done; 1 a read or write failed, or memory ran out; 2 the command line or the vehicle; 3 done, but lines were bad, or none was
@@ -37,7 +38,7 @@ A unit of the vehicle file may have, beside name, address and kind:
   active = [\"110/0\", \"190/2/3\"]    # SPN/FMI, or SPN/FMI/COUNT; so previous and pending
   [[unit.sends]]                    # a group that it sends again and again
   pgn = 61444                       # one that goes to all
-  bytes = \"F07D84A61F00F07D\"        # 1 to 8 bytes
+  bytes = \"F07D84A61F00F07D\"        # 1 to 1785 bytes
   period = 100                      # 10 to 60000 ms
   priority = 3                      # 0 to 7 [6]
   checksum = { start = 60, length = 4 }   # where each frame bears the checksum of J1939-71
@@ -48,7 +49,8 @@ A unit of the vehicle file may have, beside name, address and kind:
   order = \"intel\"                   # or \"motorola\" [\"intel\"]
   least = 0
   most = 7
-  [[unit.answers]]                  # a group that it sends where it is asked for it: pgn, bytes, priority"
+  [[unit.answers]]                  # a group that it sends where it is asked for it: pgn, bytes, priority
+  [[unit.fails]]                    # what it does wrong on purpose: kind, after, count, time, .."
 }
 
 /// Its options.

@@ -20,6 +20,8 @@ pub(crate) enum Given {
     Always,
     /// `VALUE` alone, or not at all.
     Alone,
+    /// `VALUE` alone, as often as is wanted.
+    Rest,
 }
 
 /// An option of a subcommand.
@@ -74,5 +76,6 @@ fn arg_of<'a>(alloc: Global, option: &CommandOption<'a>) -> Arg<'a>
             .required(true)
             .action(ArgAction::Set),
         Given::Alone => arg.value_name(option.value).action(ArgAction::Set),
+        Given::Rest => arg.value_name(option.value).action(ArgAction::Append),
     }
 }

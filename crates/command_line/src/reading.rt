@@ -5,7 +5,7 @@ ghost use Rattle.clap.specs.declared.builder.command.Command.TheViews.{out-Comma
 ghost use Rattle.command_line.specs.CommandLine.{AsksForHelp, AsksForScript, HasCounts, HasWords, IsHelp, TellsWhy, bench_app, faults_in, garage_app, lines_app, named_app, wire_app};
 
 use crate::fault::{LineFault, fault_of};
-use crate::{decode, live, script, threads, watch};
+use crate::{decode, live, script, tester, threads, watch};
 use clap::{ArgMatches, Command};
 use program_io::Job;
 use std::alloc::{AllocError, Global};
@@ -76,6 +76,7 @@ fn job_named<'a>(alloc: Global, name: &str, found: &ArgMatches<'a>) -> Result<Jo
         "decode" => Ok(Job::Decode(decode::words(found))),
         "check" => Ok(Job::Check),
         "live" => Ok(Job::Live(live::words(found))),
+        "tester" => tester::job(alloc, found),
         _ => Err(LineFault::Refused(None)),
     }
 }
@@ -84,7 +85,8 @@ fn job_named<'a>(alloc: Global, name: &str, found: &ArgMatches<'a>) -> Result<Jo
 fn bench_command<'a>(alloc: Global) -> Result<Command<'a>, AllocError>
     ensures { IfOk result (λ c. app_of c ≡ bench_app) }
 {
-    with_one_more(with_lines(alloc), live::command(alloc))
+    let lively = with_one_more(with_lines(alloc), live::command(alloc));
+    with_one_more(lively, tester::command(alloc))
 }
 
 /// The command with the subcommands that read the lines of a log besides.

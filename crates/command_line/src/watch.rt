@@ -232,7 +232,7 @@ fn words<'a>(found: &ArgMatches<'a>) -> WatchArguments<'a> {
 }
 
 /// The words of an option that may be given again.
-fn listed<'a>(
+pub(crate) fn listed<'a>(
     alloc: Global,
     found: &ArgMatches<'a>,
     option: &str,

@@ -42,7 +42,9 @@ fn do_job<R: Runtime + AllocGlobal + Threads + Wait + Sync>(
         } => threads(rt, turns, reads, report),
         Job::Log(words) => log(rt, words),
         Job::Check => check(rt),
-        Job::Watch { .. } | Job::Decode(_) | Job::Live(_) => Err(done_elsewhere(rt.alloc())),
+        Job::Watch { .. } | Job::Decode(_) | Job::Live(_) | Job::Tester { .. } => {
+            Err(done_elsewhere(rt.alloc()))
+        }
     }
 }
 

@@ -49,9 +49,12 @@ fn do_job<R: Runtime + AllocGlobal>(
             watch(rt, request, is_terminal)
         }
         Job::Decode(words) => decode(rt, words, is_terminal),
-        Job::Script | Job::Threads { .. } | Job::Log(_) | Job::Check | Job::Live(_) => {
-            Err(done_elsewhere(rt.alloc()))
-        }
+        Job::Script
+        | Job::Threads { .. }
+        | Job::Log(_)
+        | Job::Check
+        | Job::Live(_)
+        | Job::Tester { .. } => Err(done_elsewhere(rt.alloc())),
     }
 }
 

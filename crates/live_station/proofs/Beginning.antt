@@ -8,7 +8,7 @@ use Rattle.station_table.specs.Reactions.{own_claim}
 use Rattle.station_table.specs.StationValue.{StationValue}
 use Rattle.station_table.specs.Steps.{new_station}
 use Rattle.live_station.specs.Working.{EchoValue, WorkingValue, begun_station}
-use Rattle.live_station.specs.declared.station.StationTimes.{StationTimes}
+use Rattle.live_station.specs.declared.times.StationTimes.{StationTimes}
 
 pub begun_of_parts : (name want grant : ℕ) (times : StationTimes) (s : StationValue) (q : QueueValue) (c : UnitClock) (e : EchoValue)
     → s ≡ new_station name want grant → q ≡ putting false (plain (own_claim s.claimer) ∷ []) (empty_queue want) → c ≡ clock_at_start

@@ -1,7 +1,7 @@
 -- How an open order goes on, and how it ends.
 use Rattle.std.specs.Prelude.{ℕ, ◌-◌, min, Bool, true, false, not, ◌&&◌, ◌||◌, ◌==◌, nat_lt, is_some, Option, Some, None, if◌then◌else◌}
 use Rattle.address_claim.specs.Claiming.{is_held}
-use Rattle.can_frame.specs.declared.address.TheConstants.{GLOBAL_ADDRESS}
+use Rattle.can_frame.specs.declared.address.TheConstants.{GLOBAL_ADDRESS, GREATEST_ADDRESS}
 use Rattle.can_frame.specs.declared.group_numbers.TheConstants.{ADDRESS_CLAIMED, COMMANDED_ADDRESS, DM3, DM11}
 use Rattle.dm_messages.specs.View.{pgn_of_kind}
 use Rattle.dm_messages.specs.declared.kind.Kind.{Kind}
@@ -63,6 +63,11 @@ group_wanted (AskClaim name) = ADDRESS_CLAIMED
 group_wanted AskAllClaims = ADDRESS_CLAIMED
 group_wanted (Clear name what) = clearing_group what
 group_wanted (Command name address) = COMMANDED_ADDRESS
+
+-- it commands an address that nobody can hold
+abbrev pub commands_too_far : Order → Bool
+commands_too_far (Command name address) = nat_lt GREATEST_ADDRESS address
+commands_too_far _ = false
 
 -- the frames of a command: the announcement of a broadcast, and two packets
 abbrev pub part_number : Part → ℕ

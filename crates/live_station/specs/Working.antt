@@ -47,10 +47,10 @@ use Rattle.live_station.specs.declared.order.Order.{Order}
 use Rattle.live_station.specs.declared.order.Order.TheVariants as order
 use Rattle.live_station.specs.declared.sign.Sign.{Sign}
 use Rattle.live_station.specs.declared.sign.Sign.TheVariants as sign
-use Rattle.live_station.specs.declared.station.Pulled.{Pulled}
-use Rattle.live_station.specs.declared.station.StationTimes.{StationTimes}
-use Rattle.live_station.specs.declared.station.Told.{Told}
-use Rattle.live_station.specs.declared.station.Pulled.TheVariants as pulled
+use Rattle.live_station.specs.declared.pulled.Pulled.{Pulled}
+use Rattle.live_station.specs.declared.times.StationTimes.{StationTimes}
+use Rattle.live_station.specs.declared.pulled.Told.{Told}
+use Rattle.live_station.specs.declared.pulled.Pulled.TheVariants as pulled
 use Rattle.live_station.specs.declared.turn.Deed.{Deed}
 use Rattle.live_station.specs.declared.turn.Deed.TheVariants as deed
 use Rattle.live_station.specs.declared.turn.Outlook.{Outlook}

@@ -7,19 +7,24 @@
 
 mod echo;
 mod error;
+mod going;
 mod hearing;
 mod laws;
 mod open;
 mod order;
+mod pulled;
 mod sign;
 mod station;
 mod times;
 mod turn;
 mod verdict;
+mod waiting;
 
 pub use error::{HearError, OrderError};
 pub use laws::{a_clear_stays_out_undoubted, lists_are_what_was_told, positive_is_acknowledged};
 pub use open::{Asked, OpenOrder, Part, Progress, Stage};
 pub use order::{Clearing, Order};
-pub use station::{LiveStation, Pulled, StationTimes, Told};
+pub use pulled::{Pulled, Told};
+pub use station::LiveStation;
+pub use times::StationTimes;
 pub use verdict::{Doubt, Finding, Verdict};

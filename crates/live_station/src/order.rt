@@ -2,7 +2,7 @@ ghost use Rattle.std.specs.Prelude.{◌≡◌};
 ghost use Rattle.live_station.specs.OpenOrders.{clearing_group, group_wanted, kind_wanted, unit_named};
 ghost use Rattle.live_station.specs.OpenOrders as orders;
 
-use can_frame::Pgn;
+use can_frame::{GREATEST_ADDRESS, Pgn};
 use dm_messages::Kind;
 use name_field::Name;
 
@@ -87,6 +87,16 @@ impl Order {
             Order::AskClaim { .. } | Order::AskAllClaims => Pgn::ADDRESS_CLAIMED,
             Order::Clear { what, .. } => what.pgn(),
             Order::Command { .. } => Pgn::COMMANDED_ADDRESS,
+        }
+    }
+
+    /// Whether it commands an address that nobody can hold, 254 or 255.
+    pub fn commands_too_far(&self) -> bool
+        ensures { result ≡ orders.commands_too_far self.now }
+    {
+        match *self {
+            Order::Command { address, .. } => address > GREATEST_ADDRESS,
+            _ => false,
         }
     }
 }

@@ -1,24 +1,20 @@
-ghost use Rattle.std.specs.Prelude.{ℕ, ◌≡◌, ◌≢◌, ◌↔◌, ◌⊎◌, ◌≤◌, ◌<◌, ◌+◌, ◌∷◌, [], IfErr, IfOk, IfSome, IsErrOf, IsSome, List, None, Ok, OnErr, OnOk, Some, false, true, option_map};
-ghost use Rattle.can_frame.specs.Fields.{source_of};
+ghost use Rattle.std.specs.Prelude.{ℕ, ◌≡◌, ◌↔◌, ◌⊎◌, ◌≤◌, ◌<◌, ◌+◌, ◌∷◌, [], IfErr, IfOk, IsErrOf, IsNone, IsSome, List, None, OnErr, OnOk, Some, false, option_map, true};
 ghost use Rattle.can_frame.specs.declared.address.TheConstants.{GREATEST_ADDRESS as GREATEST};
 ghost use Rattle.can_frame.specs.declared.reading.Reading.{Reading as AnyReading};
 ghost use Rattle.can_frame.specs.declared.reading.Reading.TheVariants.{Frame as FrameRead, Gap as GapRead};
-ghost use Rattle.address_claim.specs.Frames.{claim_source};
 ghost use Rattle.bus_model.specs.Heard.{StationSettings};
 ghost use Rattle.entry_lists.specs.Entries.{HasPut};
-ghost use Rattle.live_unit.specs.Queue.{empty_queue, frames_waiting, putting};
-ghost use Rattle.node_core.specs.Deed.{plain};
+ghost use Rattle.live_unit.specs.Queue.{frames_waiting};
 ghost use Rattle.live_unit.specs.declared.queue.TheConstants.{MOST_PUT as MOST};
 ghost use Rattle.station_table.specs.StandsFor.{StandsFor};
 ghost use Rattle.live_station.specs.Ear.{entry_of_told, frames_told};
-ghost use Rattle.live_station.specs.OpenOrders.{begun_order, order_cut_off, unit_named};
+ghost use Rattle.live_station.specs.OpenOrders.{begun_order, commands_too_far, order_cut_off};
 ghost use Rattle.live_station.specs.Turns.{order_due};
-ghost use Rattle.live_station.specs.Working.{DoesDeed, DoesTurn, HearsOnBus, HearsOwnFrame, IsFirstFrom, IsOwedFrom, IsSentFromOwn, IsUnordered, MissesFrames, OwesAll, LacksRoomToHear, SendsWaiting, address_of_name, after_told, after_reaction, after_stranger, asked_for_claims, begun_station, deed_turn, hearing_on, missing_on, outlook_of, progress_by_stranger, settled_since, still_open, told_of_it, turn_at, verdict_of, with_first};
+ghost use Rattle.live_station.specs.Working.{DoesDeed, DoesTurn, HearsOnBus, HearsOwnFrame, IsSentFromOwn, IsUnordered, MissesFrames, LacksRoomToHear, SendsWaiting, after_told, after_stranger, asked_for_claims, begun_station, outlook_of, progress_by_stranger, settled_since, told_of_it, turn_at, verdict_of};
 ghost use Rattle.live_station.specs.Ear as ear;
 ghost use Rattle.live_station.specs.Working as spec;
 ghost use Rattle.live_unit.specs.Queue.{HasFreeLanes};
 ghost use Rattle.live_unit.specs.Times.{lane_due};
-ghost use Rattle.live_unit.specs.Waits.{later};
 ghost use Rattle.parameter_group.specs.Group.{group_of};
 ghost use Rattle.parameter_group.specs.Said.{IsLawfulGroup, said};
 ghost use Rattle.can_frame.specs.FrameValue.{FrameValue};
@@ -27,60 +23,29 @@ ghost use Rattle.station_table.specs.Reactions.{request_for_claims};
 
 use crate::echo::Echo;
 use crate::error::{HearError, OrderError};
+use crate::going::{
+    address_of, clear_from_claim, clear_from_end, go_on, hear_on, miss_on, source_of, turn_of,
+};
 use crate::hearing::{is_own, may_be_answered};
-use crate::open::{ANSWER_WAIT, OpenOrder, Part, Progress, Sight};
+use crate::open::{ANSWER_WAIT, OpenOrder, Part};
 use crate::order::Order;
+use crate::pulled::{Pulled, Told};
 use crate::sign::{Sign, sign_to};
-use crate::times::behind;
+use crate::times::{StationTimes, behind};
 use crate::turn::{Deed, Outlook, Turn};
 use crate::verdict::{Finding, Verdict};
+use crate::waiting::{queue_of, take_in};
 use bus_model::Change;
-use can_frame::{Frame, Frames, GLOBAL_ADDRESS, GREATEST_ADDRESS, NULL_ADDRESS, Pgn, Reading};
-use entry_lists::{Lists, Row};
-use live_unit::{Lane, Queue, QueueCounts, UnitClock, UnitSettings, frame_from, lane_due};
+use can_frame::{Frame, GLOBAL_ADDRESS, Pgn, Reading};
+use entry_lists::Lists;
+use live_unit::{Lane, Queue, QueueCounts, UnitClock, UnitSettings, lane_due};
 use name_field::Name;
-use node_core::{Outs, Withdraw};
 use parameter_group::ParameterGroup;
 use requests::{Commanded, Request};
-use station_table::{Outcome, Reaction, Station};
+use station_table::{Outcome, Station};
 use std::alloc::{AllocError, Global};
 use std::marker::Model;
 use transport::message_part;
-
-/// What a station keeps to, in microseconds.
-#[derive(Clone, Copy)]
-pub struct StationTimes {
-    /// How long it is at least from a frame of a command to the next: 10,000 to 200,000 (SAE J1939-21).
-    pub gap: u64,
-    /// How long it is from the first claim of an address to anything but a claim: 250,000 (SAE J1939-81).
-    pub settle: u64,
-}
-
-/// What came of a frame, or of frames that were missed.
-#[derive(Clone, Copy)]
-pub struct Told {
-    /// What it changed of what the station knows (`bus_model`). A message that ended is in the lists.
-    pub change: Change,
-    /// The verdict of the open order, which it ended.
-    pub verdict: Option<Verdict>,
-    /// Whether it is from the station's own address, and somebody else wrote it.
-    pub stranger: bool,
-}
-
-/// What goes at a time.
-#[derive(Clone, Copy)]
-pub enum Pulled {
-    /// Nothing more.
-    Nothing,
-    /// A frame, which is written, as far as the station knows: there is no way back.
-    Frame {
-        frame: Frame,
-        /// Whether the open order wrote it.
-        of_order: bool,
-    },
-    /// The verdict of the open order, which ended.
-    Verdict(Verdict),
-}
 
 /// A diagnostic station that takes part in a bus that others are on.
 #[derive(Drop)]
@@ -370,15 +335,14 @@ impl LiveStation {
     pub fn order(&mut self, order: Order) -> Result<(), OrderError>
         ensures ok { OnOk result (self.new ≡ record self.old { order = Some (begun_order order) }) }
         ensures busy { IsErrOf result OrderError.Open ↔ IsSome self.old.order }
+        ensures not_an_address { IsErrOf result OrderError.NotAnAddress ↔ (IsNone self.old.order × commands_too_far order ≡ true) }
         ensures err { OnErr result (self.new ≡ self.old) }
     {
         if self.order.is_some() {
             return Err(OrderError::Open);
         }
-        if let Order::Command { address, .. } = order {
-            if address > GREATEST_ADDRESS {
-                return Err(OrderError::NotAnAddress);
-            }
+        if order.commands_too_far() {
+            return Err(OrderError::NotAnAddress);
         }
         self.order = Some(OpenOrder::new(order));
         Ok(())
@@ -625,168 +589,5 @@ impl LiveStation {
             Some(verdict) => Pulled::Verdict(verdict),
             None => Pulled::Nothing,
         }
-    }
-}
-
-/// A queue in which a claim of this address waits.
-fn queue_of(alloc: Global, source: u8, claim: Frame) -> Result<Queue, AllocError>
-    requires { IsOwedFrom source claim }
-    ensures is { IfOk result (λ q. q ≡ putting false (plain claim ∷ []) (empty_queue source)) }
-    ensures source { IfOk result (λ q. q.source ≡ source) }
-    ensures owes { IfOk result OwesAll }
-{
-    let mut queue = Queue::new(alloc, source)?;
-    put_one(&mut queue, claim);
-    Ok(queue)
-}
-
-/// Puts a frame.
-#[tactic(auto, using(crate::proofs::Owing::source_after_putting))]
-fn put_one(queue: &mut Queue, frame: Frame)
-    requires room { HasFreeLanes queue.old }
-    requires few { queue.old.put < MOST }
-    requires from { IsOwedFrom queue.old.source frame }
-    requires owes { OwesAll queue.old }
-    ensures is { queue.new ≡ putting false (plain frame ∷ []) queue.old }
-    ensures source { queue.new.source ≡ queue.old.source }
-    ensures owes { OwesAll queue.new }
-{
-    queue.put(Outs::plain(frame), false);
-}
-
-/// What a station does by its open order.
-fn turn_of(going: OpenOrder, deed: Deed) -> Turn
-    ensures { result ≡ deed_turn going deed }
-{
-    match deed {
-        Deed::Nothing => Turn::Rests,
-        deed => Turn::Does(going, deed),
-    }
-}
-
-/// From when on a clear goes behind a frame of a lane: the first claim of an address puts it off.
-fn clear_from_claim(lane: Lane, claimed: bool, now: u64, from: u64) -> u64
-    ensures { (c : UnitClock) → c.claimed ≡ claimed → result ≡ spec.clear_from_claim lane c now from }
-{
-    match lane {
-        Lane::Claims if !claimed => now.saturating_add(ANSWER_WAIT),
-        _ => from,
-    }
-}
-
-/// From when on a clear goes behind an order that ended: a clear that nobody answered puts it off.
-fn clear_from_end(order: Order, finding: Finding, now: u64, from: u64) -> u64
-    ensures { result ≡ spec.clear_from_end order finding now from }
-{
-    match (order, finding) {
-        (Order::Clear { .. }, Finding::Silent) => now.saturating_add(ANSWER_WAIT),
-        _ => from,
-    }
-}
-
-/// Withdraws and puts what a station withdraws and puts, but for a request for claims behind its claim, which waits for its time.
-#[tactic(auto, using(crate::proofs::Owing::owes_after_withdrawing))]
-fn take_in(queue: &mut Queue, reaction: Reaction, held: Option<u8>)
-    requires source { (reaction.withdraw ≡ true) ⊎ (claim_source held ≡ queue.old.source) }
-    requires room { (reaction.withdraw ≡ true) ⊎ (HasFreeLanes queue.old ⊎ (reaction.put ≡ [])) }
-    requires few { queue.old.put < MOST }
-    requires from { IsFirstFrom (claim_source held) reaction.put }
-    requires owes { OwesAll queue.old }
-    ensures is { queue.new ≡ after_reaction reaction (claim_source held) queue.old }
-    ensures source { queue.new.source ≡ claim_source held }
-    ensures owes { OwesAll queue.new }
-{
-    if reaction.withdraw {
-        queue.withdraw(Withdraw::All, source_of(held));
-    }
-    put_first(queue, &reaction.put);
-}
-
-/// Puts the first frame, if there is one.
-#[tactic(auto, using(crate::proofs::Owing::owes_after_first, crate::proofs::Owing::source_after_first, crate::proofs::Owing::first_put, crate::proofs::Owing::none_put, crate::proofs::Owing::first_is))]
-fn put_first(queue: &mut Queue, put: &Frames)
-    requires room { HasFreeLanes queue.old ⊎ (put.now ≡ []) }
-    requires few { queue.old.put < MOST }
-    requires from { IsFirstFrom queue.old.source put.now }
-    requires owes { OwesAll queue.old }
-    ensures is { queue.new ≡ with_first put.now queue.old }
-    ensures source { queue.new.source ≡ queue.old.source }
-    ensures owes { OwesAll queue.new }
-{
-    if let Some(first) = put.as_slice().first() {
-        put_one(queue, *first);
-    }
-}
-
-/// What becomes of the open order where frames were missed.
-fn miss_on(order: Option<OpenOrder>, now: u64) -> Option<Progress>
-    ensures { result ≡ missing_on now order }
-{
-    let going = order?;
-    Some(going.miss(now))
-}
-
-/// What becomes of the open order by what a frame says.
-fn hear_on(
-    order: Option<OpenOrder>,
-    station: &Station,
-    sign: Sign,
-    contested: bool,
-    stranger: bool,
-    now: u64,
-) -> Option<Progress>
-    ensures { result ≡ hearing_on station.now sign contested stranger now order }
-{
-    let going = order?;
-    let sight = Sight {
-        held: station.held(),
-        address: address_of(station, going.order),
-        contested,
-        stranger,
-    };
-    Some(going.hear(sign, sight, now))
-}
-
-/// The open order is so far now, if one is open. Its verdict, where it ended.
-fn go_on(order: &mut Option<OpenOrder>, progress: Option<Progress>) -> Option<Verdict>
-    ensures going { order.new ≡ still_open progress }
-    ensures verdict { result ≡ verdict_of progress }
-{
-    match progress {
-        Some(Progress::Goes(open)) => {
-            *order = Some(open);
-            None
-        }
-        Some(Progress::Ends(verdict)) => {
-            *order = None;
-            Some(verdict)
-        }
-        None => {
-            *order = None;
-            None
-        }
-    }
-}
-
-/// The address of the unit that an order is for.
-fn address_of(station: &Station, order: Order) -> Option<u8>
-    ensures { result ≡ address_of_name station.now (unit_named order) }
-{
-    let Some(name) = order.name() else {
-        return None;
-    };
-    match station.row(name) {
-        Some(Row { address, .. }) => address,
-        None => None,
-    }
-}
-
-/// The address from which a station sends: the one that it holds, or 254.
-fn source_of(held: Option<u8>) -> u8
-    ensures { result ≡ claim_source held }
-{
-    match held {
-        Some(address) => address,
-        None => NULL_ADDRESS,
     }
 }

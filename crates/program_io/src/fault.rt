@@ -24,6 +24,8 @@ pub enum Fault {
     Texts,
     /// All is done, but lines were bad, or none was a frame: that was told, and no line follows.
     BadLines,
+    /// All is done, but something that was asked for was not granted: that was told, and no line follows.
+    Orders,
 }
 
 impl fmt::Display for Fault {
@@ -38,6 +40,7 @@ impl fmt::Display for Fault {
             Fault::Vehicle => "fault: vehicle",
             Fault::Texts => "fault: texts",
             Fault::BadLines => "lines were bad",
+            Fault::Orders => "orders",
         };
         write!(f, "{text}")
     }
@@ -46,7 +49,8 @@ impl fmt::Display for Fault {
 impl Fault {
     ghost use Rattle.program_io.specs.Fault.{status_of};
 
-    /// The exit status: 1 where the machine failed, 2 where what was given is refused, 3 where lines of it were bad.
+    /// The exit status: 1 where the machine failed, 2 where what was given is refused, 3 where lines of it were bad, 4 where
+    /// something that was asked for was not granted.
     pub fn status(self) -> u8
         ensures { result ≡ status_of self }
     {
@@ -58,6 +62,7 @@ impl Fault {
             | Fault::Vehicle
             | Fault::Texts => 2,
             Fault::BadLines => 3,
+            Fault::Orders => 4,
         }
     }
 }

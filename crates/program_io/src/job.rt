@@ -35,6 +35,41 @@ pub enum Job<'a> {
     Check,
     /// `live`: the units of a vehicle on the bus whose lines come from standard input.
     Live(LiveArguments<'a>),
+    /// `tester`: a station on the bus whose lines come from standard input.
+    Tester {
+        words: TesterArguments<'a>,
+        /// The words of its orders.
+        orders: Vec<&'a str>,
+    },
+}
+
+/// The words behind `tester`, but for those of its orders. A word that was not given is none.
+#[derive(Clone, Copy)]
+pub struct TesterArguments<'a> {
+    /// Its NAME.
+    pub name: Option<&'a str>,
+    /// The address that it wants.
+    pub address: Option<&'a str>,
+    /// How many packets it grants at once.
+    pub grant: Option<&'a str>,
+    /// The bus whose frames are heard, which the lines name.
+    pub bus: Option<&'a str>,
+    /// Milliseconds from a packet of a broadcast to the next.
+    pub gap: Option<&'a str>,
+    /// Milliseconds from a claim to anything else.
+    pub settle: Option<&'a str>,
+    /// Microseconds from a line to the next.
+    pub pace: Option<&'a str>,
+    /// Whose times count: `clock` or `lines`.
+    pub times: Option<&'a str>,
+    /// How it is told what becomes of orders: `text` or `json`.
+    pub format: Option<&'a str>,
+    /// A file of further orders.
+    pub control: Option<&'a str>,
+    /// Whether the first bad line ends the run.
+    pub strict: bool,
+    /// Whether it may clear all units, and command one to an address that is held.
+    pub yes: bool,
 }
 
 /// The words behind `live`. A word that was not given is none.

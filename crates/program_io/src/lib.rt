@@ -13,5 +13,8 @@ pub use argument_error::ArgumentError;
 pub use failure::Failure;
 pub use fault::Fault;
 pub use input::{LIMIT, read_input, read_text};
-pub use job::{DecodeArguments, Job, LiveArguments, LogArguments, WatchArguments, is_bus, path_of};
+pub use job::{
+    DecodeArguments, Job, LiveArguments, LogArguments, TesterArguments, WatchArguments, is_bus,
+    path_of,
+};
 pub use messages::Messages;

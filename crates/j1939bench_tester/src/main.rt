@@ -1,0 +1,38 @@
+//! `j1939bench_tester`: the subcommand `tester` of `j1939bench`, a station on a real bus that asks, reads and clears.
+#![tactic(auto)]
+
+mod tester;
+
+use command_line::{asked_for, done_elsewhere, ended, read_words};
+use program_io::{Failure, Job};
+use std::fs::File;
+use std::io::StdinLock;
+use std::process::ExitCode;
+use std::rt::{Files, Runtime};
+use std::sync::Wait;
+use std::thread::Threads;
+
+fn main(rt: HostRuntime) -> ExitCode {
+    let ran = run(&rt);
+    ended(&rt, ran)
+}
+
+/// Does what the words of the command line ask for.
+fn run<
+    R: Runtime
+        + AllocGlobal
+        + Threads
+        + Wait
+        + Sync
+        + Send
+        + Input<Reader = StdinLock<'static>>
+        + Files<File = File>
+        + 'static,
+>(rt: &R) -> Result<(), Failure> {
+    let words = read_words(rt)?;
+    match asked_for(rt, words.as_slice())? {
+        Some(Job::Tester { words, orders }) => tester::tester(rt, words, orders.as_slice()),
+        Some(_) => Err(done_elsewhere(rt.alloc())),
+        None => Ok(()),
+    }
+}

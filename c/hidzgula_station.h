@@ -2,12 +2,12 @@
  *
  * A program hands over the frames that it reads of one bus, in their order, sends what the station replies, is told what each frame
  * changed, and asks for the lists by NAME. Or it sends nothing, and has a listener hear all that is sent between any two addresses. Or it has
- * simulated units hear those frames, and writes the frames that it asks them for, each when it is due. What each call does is proved of the
- * library (crate station_c), as long as the C side does its part:
+ * simulated units, or a live station that carries out orders, hear those frames with their times, and writes the frames that it asks them for,
+ * each when it is due. What each call does is proved of the library (crate station_c), as long as the C side does its part:
  *
  *  - A station is held in a `hidzgula_station`, which begins as HIDZGULA_EMPTY (all its bytes 0). Its members are the library's:
- *    nobody else reads or writes them, and it is never copied or moved, from `hidzgula_open` to `hidzgula_close`. A listener likewise in a
- *    `hidzgula_listener`, a unit in a `hidzgula_unit`, each from its open to its close.
+ *    nobody else reads or writes them, and it is never copied or moved, from `hidzgula_open` to `hidzgula_close`. A live station likewise in a
+ *    `hidzgula_live`, a listener in a `hidzgula_listener`, a unit in a `hidzgula_unit`, each from its open to its close.
  *  - Each of these is given to one call at a time, from whichever thread: two calls on one are ordered by a lock, by a thread's start
  *    or join, or by an atomic of the default order. Nothing in the library is tied to a thread. Several of them are independent.
  *  - Each pointer points to what its type says: aligned, large enough, not NULL, and no two of one call overlap. Only `change` may be
@@ -65,13 +65,17 @@ enum {
     HIDZGULA_NOT_ACTIVE = 14,    /* the code to heal is not active */
     HIDZGULA_NO_UNIT = 35,       /* the handle is empty: not opened, or closed */
     HIDZGULA_HAS_UNIT = 36,      /* the handle has an open unit */
-    HIDZGULA_QUEUE_FULL = 37,    /* as much waits to be written as there is room for */
+    HIDZGULA_QUEUE_FULL = 37,    /* as much waits to be written as there is room for; of a live station too */
     HIDZGULA_SESSION_OPEN = 38,  /* a session of that kind is open */
     HIDZGULA_NOT_PENDING = 39,   /* the code to go away is not pending */
 
     /* of listeners alone */
     HIDZGULA_NO_LISTENER = 40,   /* the handle is empty: not opened, or closed */
-    HIDZGULA_HAS_LISTENER = 41   /* the handle has an open listener */
+    HIDZGULA_HAS_LISTENER = 41,  /* the handle has an open listener */
+
+    /* of live stations alone */
+    HIDZGULA_ORDER_OPEN = 42,    /* another order is open */
+    HIDZGULA_NO_GROUP = 43       /* a parameter group that no order asks for, or by which one does not clear */
 };
 
 /* The kinds of diagnostic messages, numbered as the messages are; any other number is refused, NO_KIND. */
@@ -248,6 +252,78 @@ typedef struct {
     uint64_t waiting;
 } hidzgula_unit_counts_out;
 
+/* Room for a live station; it begins as HIDZGULA_EMPTY too. */
+typedef struct {
+    void *at;
+    bool full;
+} hidzgula_live;
+
+/* What a live station keeps to; times are in microseconds.
+ *  - `gap`: how long it is at least from a frame of a command to the next, 10,000 to 200,000: 50 to 200 ms by SAE J1939-21, 10 to 200 ms by
+ *    ISO 11783-3 and later editions (from memory).
+ *  - `settle`: how long it is from the claim of a new address to anything but a claim, up to 1,000,000 (J1939-81: 250,000).
+ *  - `keep`: of each list it keeps the newest so many messages, none where it is 0.
+ *  - `grant`: how many packets it lets a sender send at once at most, 1 to 255 (J1939-21). */
+typedef struct {
+    uint64_t gap;
+    uint64_t settle;
+    uint32_t keep;
+    uint8_t grant;
+} hidzgula_live_settings;
+
+#define HIDZGULA_USUAL_LIVE_SETTINGS { 50000, 250000, 16, 255 }
+
+/* Of a live station alone: nothing else changed, and somebody else sends from the station's own address. It is told only once a frame of its own
+ * came back to the station. */
+enum { HIDZGULA_STRANGER = 9 };
+
+/* What became of an order. */
+enum {
+    HIDZGULA_NO_ORDER = 0,      /* none was given */
+    HIDZGULA_OPEN = 1,          /* it is open */
+    HIDZGULA_ANSWERED = 2,      /* a message that began after the request ended, which is the newest of its list; or a claim came */
+    HIDZGULA_UNREAD = 3,        /* a message that began after the request ended, and cannot be read */
+    HIDZGULA_POSITIVE = 4,      /* the unit says that it cleared */
+    HIDZGULA_REFUSED = 5,       /* the unit refused: `detail` is the control byte, 1 negative, 2 access denied, or another number */
+    HIDZGULA_BUSY = 6,          /* the unit could not answer now, three times */
+    HIDZGULA_OBEYED = 7,        /* the NAME holds the address that it was commanded to hold */
+    HIDZGULA_NO_SUCH_UNIT = 8,  /* no address of the NAME is known, though claims were asked for */
+    HIDZGULA_SILENT = 9,        /* nothing came: what was asked three times, or cleared or commanded once, each for 1,250 ms */
+    HIDZGULA_IN_DOUBT = 10,     /* a clear was written, and nobody knows whether it was done: `detail` is one of those below */
+    HIDZGULA_LOST_ADDRESS = 11, /* the station holds no address */
+    HIDZGULA_CUT_OFF = 12       /* it was ended first: `detail` is 1 where it was written, else 0 */
+};
+
+/* Why a clear is in doubt. */
+enum {
+    HIDZGULA_DOUBT_UNIT = 1,    /* the NAME moved, gave up, or another NAME claimed its address */
+    HIDZGULA_DOUBT_MISSED = 2,  /* frames were missed */
+    HIDZGULA_DOUBT_ADDRESS = 3, /* another NAME claimed the station's own address */
+    HIDZGULA_DOUBT_STRANGER = 4 /* somebody else sends from the station's own address */
+};
+
+/* The order that is open, or what came of the newest one: `what` is one of HIDZGULA_NO_ORDER to HIDZGULA_CUT_OFF. `pgn` is the group that is asked
+ * for, of a command 65240, and `name` the NAME of its unit where `has_name` is 1. `commanded` is the address that a command names. Once it ended,
+ * `tries` is how often it was written; `address` is where to, where `has_address` is 1; and `after` how many microseconds ago, the last time,
+ * where `has_after` is 1. `left`, with `left_detail`, is what came of asking what a clear left: a message, DM2 behind DM3 and DM1 behind DM11,
+ * which is the newest of its list where `left` is HIDZGULA_ANSWERED. A unit is clear where `what` is HIDZGULA_POSITIVE and that message has no code.
+ * A field that is not named is 0; so is `detail` where none is told of above. */
+typedef struct {
+    uint64_t name;
+    uint64_t after;
+    uint32_t pgn;
+    uint8_t what;
+    uint8_t detail;
+    uint8_t left;
+    uint8_t left_detail;
+    uint8_t tries;
+    uint8_t has_name;
+    uint8_t has_address;
+    uint8_t address;
+    uint8_t has_after;
+    uint8_t commanded;
+} hidzgula_verdict;
+
 /* Room for a listener; it begins as HIDZGULA_EMPTY too. */
 typedef struct {
     void *at;
@@ -414,6 +490,25 @@ HIDZGULA_LAYOUT(offsetof(hidzgula_sent_out, older) == 8);
 HIDZGULA_LAYOUT(offsetof(hidzgula_sent_out, bytes_behind) == 10);
 HIDZGULA_LAYOUT(offsetof(hidzgula_sent_out, bytes_missing) == 11);
 HIDZGULA_LAYOUT(offsetof(hidzgula_sent_out, codes) == 16);
+HIDZGULA_LAYOUT(sizeof(hidzgula_live) == 16);
+HIDZGULA_LAYOUT(offsetof(hidzgula_live, full) == 8);
+HIDZGULA_LAYOUT(sizeof(hidzgula_live_settings) == 24);
+HIDZGULA_LAYOUT(offsetof(hidzgula_live_settings, settle) == 8);
+HIDZGULA_LAYOUT(offsetof(hidzgula_live_settings, keep) == 16);
+HIDZGULA_LAYOUT(offsetof(hidzgula_live_settings, grant) == 20);
+HIDZGULA_LAYOUT(sizeof(hidzgula_verdict) == 32);
+HIDZGULA_LAYOUT(offsetof(hidzgula_verdict, after) == 8);
+HIDZGULA_LAYOUT(offsetof(hidzgula_verdict, pgn) == 16);
+HIDZGULA_LAYOUT(offsetof(hidzgula_verdict, what) == 20);
+HIDZGULA_LAYOUT(offsetof(hidzgula_verdict, detail) == 21);
+HIDZGULA_LAYOUT(offsetof(hidzgula_verdict, left) == 22);
+HIDZGULA_LAYOUT(offsetof(hidzgula_verdict, left_detail) == 23);
+HIDZGULA_LAYOUT(offsetof(hidzgula_verdict, tries) == 24);
+HIDZGULA_LAYOUT(offsetof(hidzgula_verdict, has_name) == 25);
+HIDZGULA_LAYOUT(offsetof(hidzgula_verdict, has_address) == 26);
+HIDZGULA_LAYOUT(offsetof(hidzgula_verdict, address) == 27);
+HIDZGULA_LAYOUT(offsetof(hidzgula_verdict, has_after) == 28);
+HIDZGULA_LAYOUT(offsetof(hidzgula_verdict, commanded) == 29);
 HIDZGULA_LAYOUT(sizeof(hidzgula_unit) == 16);
 HIDZGULA_LAYOUT(offsetof(hidzgula_unit, full) == 8);
 HIDZGULA_LAYOUT(sizeof(hidzgula_unit_settings) == 24);
@@ -683,6 +778,92 @@ uint32_t hidzgula_unit_held(hidzgula_unit *unit, uint8_t *has, uint8_t *address)
 /* What became of the frames that the unit put.
  * NO_UNIT. */
 uint32_t hidzgula_unit_counts(hidzgula_unit *unit, hidzgula_unit_counts_out *counts);
+
+/* ---- A live station
+ *
+ * It takes part in a bus as a simulated unit does: it hears each frame of the bus, and is asked again and again for the frame that goes now. It
+ * claims its address, and behind that asks all for their claims; defends its address or loses it; answers requests, and grants the packets of
+ * sessions. Beside these it writes what an order is, and no clear and no command without its order. One order is open at a time; what came of it is
+ * asked by `hidzgula_live_verdict`, and stays there until the next order. `now` is the time in microseconds of any clock that does not go back.
+ *
+ *     hidzgula_live_ask(&live, name, HIDZGULA_PGN_DM2);
+ *     for (;;) {
+ *         while (hidzgula_live_next(&live, now(), &frame, &has) == HIDZGULA_DONE && has) write_frame(&frame);
+ *         if (hidzgula_live_verdict(&live, &verdict) == HIDZGULA_DONE && verdict.what != HIDZGULA_OPEN) break;
+ *         hidzgula_live_when(&live, now(), &at);
+ *         if (read_frame_until(at, &frame)) hidzgula_live_hear(&live, frame.id, frame.bytes, frame.length, now(), &change);
+ *     }
+ *
+ * Its own frames may come back to it: they change nothing, and what comes from its address and is none of them is somebody else's. A frame that
+ * `next` gave counts as written, and cannot be taken back. */
+
+/* Opens a live station of this NAME, which holds `address`, 0 to 253, and keeps to `settings`. It has heard nothing, and its claim is the first
+ * frame that goes.
+ * BAD_SETTING, HAS_STATION, OUT_OF_MEMORY. */
+uint32_t hidzgula_live_open(hidzgula_live *live, uint64_t name, uint8_t address, const hidzgula_live_settings *settings);
+
+/* Closes a live station and frees all its memory; an order that is open gets no verdict. Does nothing where there is none. */
+void hidzgula_live_close(hidzgula_live *live);
+
+/* The station hears a frame that was read of the bus: its 29-bit identifier, and `length` bytes. It does what it owes for it, lists the message that
+ * ends with it, and looks at it for the open order. `change` is what the frame changed; of a frame of its own, NOTHING or STRANGER.
+ * ID_TOO_LARGE, TOO_LONG, NO_STATION, QUEUE_FULL where as much waits as there is room for and the frame is a request or one of a session,
+ * OUT_OF_MEMORY. Refused, the frame was not heard, and may be handed over again. */
+uint32_t hidzgula_live_hear(
+    hidzgula_live *live, uint32_t id, const uint8_t *bytes, size_t length, uint64_t now, hidzgula_change *change);
+
+/* The station is told that `count` frames of the bus were missed: it forgets which NAME owns which address, and all messages that are half read,
+ * until units claim again; its claim goes again, and behind it a request for the claims of all, at most one each 1,250 ms. `change` says MISSED and
+ * how many.
+ * NO_STATION, QUEUE_FULL, OUT_OF_MEMORY. */
+uint32_t hidzgula_live_missed(hidzgula_live *live, uint32_t count, uint64_t now, hidzgula_change *change);
+
+/* One thing that goes now. `has` is 1 and `frame` is it where it is a frame, to be written at once; where the open order goes on or ends without
+ * one, or nothing goes, `has` is 0, and `frame` is as it was: then `hidzgula_live_when` says whether more goes now. Claims go first, then, once the
+ * station has settled, what it owes, and then what the order is.
+ * NO_STATION. */
+uint32_t hidzgula_live_next(hidzgula_live *live, uint64_t now, hidzgula_frame *frame, uint8_t *has);
+
+/* When to ask again: `at` is `now` or later, and before it nothing goes, unless a frame is heard or an order is given. It is UINT64_MAX where
+ * nothing waits for its time.
+ * NO_STATION. */
+uint32_t hidzgula_live_when(hidzgula_live *live, uint64_t now, uint64_t *at);
+
+/* Asks the unit of a NAME for HIDZGULA_PGN_ADDRESS_CLAIMED, HIDZGULA_PGN_DM1, HIDZGULA_PGN_DM2 or HIDZGULA_PGN_DM6. Three times at most, 1,250 ms
+ * for each answer to begin.
+ * NO_GROUP, NO_STATION, ORDER_OPEN. */
+uint32_t hidzgula_live_ask(hidzgula_live *live, uint64_t name, uint32_t pgn);
+
+/* Asks all units for one of these groups. It ends 1,250 ms behind the last frame of an answer.
+ * NO_GROUP, NO_STATION, ORDER_OPEN. */
+uint32_t hidzgula_live_ask_all(hidzgula_live *live, uint32_t pgn);
+
+/* Has the unit of a NAME clear by HIDZGULA_PGN_DM3 or HIDZGULA_PGN_DM11, and then asks it what is left. The clear is written once, and again only
+ * where the unit said that it cannot answer now.
+ * NO_GROUP, NO_STATION, ORDER_OPEN. */
+uint32_t hidzgula_live_clear(hidzgula_live *live, uint64_t name, uint32_t pgn);
+
+/* Commands the unit of a NAME to hold an address, 0 to 253.
+ * NO_STATION, ORDER_OPEN, NOT_AN_ADDRESS. */
+uint32_t hidzgula_live_command(hidzgula_live *live, uint64_t name, uint8_t address);
+
+/* Ends the open order, if one is open: its verdict is CUT_OFF; or, where what a clear left is being asked, what the clear came to, with CUT_OFF
+ * in `left`.
+ * NO_STATION. */
+uint32_t hidzgula_live_end(hidzgula_live *live, uint64_t now);
+
+/* The order that is open, or what came of the newest one.
+ * NO_STATION. */
+uint32_t hidzgula_live_verdict(hidzgula_live *live, hidzgula_verdict *verdict);
+
+/* What the station knows of units, by what it was told: the calls do what those of a station without `live_` do. */
+uint32_t hidzgula_live_held(hidzgula_live *live, uint8_t *has, uint8_t *address);
+uint32_t hidzgula_live_counts(hidzgula_live *live, uint64_t *missed, uint64_t *unread);
+uint32_t hidzgula_live_rows(hidzgula_live *live, size_t *count);
+uint32_t hidzgula_live_row(hidzgula_live *live, size_t place, hidzgula_row_out *row);
+uint32_t hidzgula_live_entries(hidzgula_live *live, uint64_t name, uint8_t kind, uint64_t *count);
+uint32_t hidzgula_live_entry(hidzgula_live *live, uint64_t name, uint8_t kind, uint64_t place, hidzgula_entry_out *entry);
+uint32_t hidzgula_live_code(hidzgula_live *live, uint64_t name, uint8_t kind, uint64_t entry, size_t place, hidzgula_code_out *code);
 
 #ifdef __cplusplus
 }

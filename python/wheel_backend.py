@@ -12,7 +12,7 @@ import sys
 import zipfile
 
 HERE = pathlib.Path(__file__).resolve().parent
-# The library by its processor. It needs Linux, and of the C library malloc, realloc, free, memcpy and memmove alone.
+# The library by its processor. It needs Linux, and of the C library malloc, realloc, free, memcpy, memmove and memset alone.
 LIBRARIES = {"x86_64": HERE.parent / "c/out/libhidzgula_station.so", "aarch64": HERE.parent / "c/out/aarch64/libhidzgula_station.so"}
 
 

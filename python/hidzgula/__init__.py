@@ -1,11 +1,13 @@
 """Hidzgula: a proved diagnostic station, a listener and simulated units for SAE J1939, the CAN network of trucks, buses, farm machines and boats.
 
 A `Listener` is handed the frames that are read of a bus, and lists under each NAME the diagnostic messages that came from it; `take_log`
-hands it a log of candump. A `Station` takes part in the bus besides, and asks units. `hidzgula.can.Listener` hands either what python-can reads. A `SimulatedUnit` takes part in a bus. docs/PYTHON.md of the project tells what is proved of it.
+hands it a log of candump. A `Station` takes part in the bus besides, and asks units. `hidzgula.can.Listener` hands either what python-can reads. A `LiveStation` carries out
+orders with their times, and a `Tester` does so on a bus of python-can. A `SimulatedUnit` takes part in a bus. docs/PYTHON.md of the project tells what is proved of it.
 """
 
 from .candump import Missed, read_log, take_log
 from .listener import Listener
+from .live import LiveStation
 from .records import (
     Acknowledgment,
     BadLine,
@@ -13,6 +15,8 @@ from .records import (
     Change,
     Code,
     Counts,
+    Doubt,
+    Finding,
     Frame,
     Heard,
     HeardFrames,
@@ -27,6 +31,7 @@ from .records import (
     TakenFrames,
     Unit,
     UnitCounts,
+    Verdict,
     What,
     Who,
     Why,
@@ -35,6 +40,7 @@ from .refusals import OutOfMemory, Refused
 from .simulated import SimulatedUnit
 from .station import KEEP_ALL, Station
 from .table import rows_of, write_csv
+from .tester import Tester
 
 __version__ = "3.0.0"
 
@@ -63,6 +69,8 @@ __all__ = [
     "DM1",
     "DM2",
     "DM6",
+    "Doubt",
+    "Finding",
     "Frame",
     "Heard",
     "HeardFrames",
@@ -70,6 +78,7 @@ __all__ = [
     "Kind",
     "Lamps",
     "Listener",
+    "LiveStation",
     "LogCounts",
     "Logged",
     "Message",
@@ -88,8 +97,10 @@ __all__ = [
     "Station",
     "Taken",
     "TakenFrames",
+    "Tester",
     "Unit",
     "UnitCounts",
+    "Verdict",
     "What",
     "Who",
     "Why",

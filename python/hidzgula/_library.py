@@ -108,6 +108,38 @@ class UnitCountsRecord(Structure):
     _fields_ = [("put", c_uint64), ("written", c_uint64), ("withdrawn", c_uint64), ("waiting", c_uint64)]
 
 
+class LiveRecord(Structure):
+    """Room for a live station: all bytes 0 at first. It is never copied or moved, and only the library reads or writes it."""
+
+    _fields_ = [("at", c_void_p), ("full", c_bool)]
+
+
+class LiveSettingsRecord(Structure):
+    """What a live station keeps to."""
+
+    _fields_ = [("gap", c_uint64), ("settle", c_uint64), ("keep", c_uint32), ("grant", c_uint8)]
+
+
+class VerdictRecord(Structure):
+    """The open order, or what came of the newest one."""
+
+    _fields_ = [
+        ("name", c_uint64),
+        ("after", c_uint64),
+        ("pgn", c_uint32),
+        ("what", c_uint8),
+        ("detail", c_uint8),
+        ("left", c_uint8),
+        ("left_detail", c_uint8),
+        ("tries", c_uint8),
+        ("has_name", c_uint8),
+        ("has_address", c_uint8),
+        ("address", c_uint8),
+        ("has_after", c_uint8),
+        ("commanded", c_uint8),
+    ]
+
+
 class ListenerRecord(Structure):
     """Room for a listener: all bytes 0 at first. It is never copied or moved, and only the library reads or writes it."""
 
@@ -175,6 +207,9 @@ RECORDS = (
     (CodeRecord, "hidzgula_code_out", 8),
     (LoggedRecord, "hidzgula_logged", 16),
     (ReadRecord, "hidzgula_read", 32),
+    (LiveRecord, "hidzgula_live", 16),
+    (LiveSettingsRecord, "hidzgula_live_settings", 24),
+    (VerdictRecord, "hidzgula_verdict", 32),
     (ListenerRecord, "hidzgula_listener", 16),
     (WhoRecord, "hidzgula_who", 24),
     (HeardRecord, "hidzgula_heard", 56),
@@ -192,6 +227,7 @@ _STATION = POINTER(StationRecord)
 _REPLY = POINTER(ReplyRecord)
 _CHANGE = POINTER(ChangeRecord)
 _UNIT = POINTER(UnitRecord)
+_LIVE = POINTER(LiveRecord)
 _LISTENER = POINTER(ListenerRecord)
 _WHO = POINTER(WhoRecord)
 _HEARD = POINTER(HeardRecord)
@@ -215,6 +251,25 @@ CALLS = {
     "hidzgula_code": (_STATION, c_uint64, c_uint8, c_uint64, c_size_t, POINTER(CodeRecord)),
     "hidzgula_counts": (_STATION, POINTER(c_uint64), POINTER(c_uint64)),
     "hidzgula_read_log": (c_void_p, c_size_t, c_char_p, c_size_t, c_void_p, c_size_t, c_void_p, c_size_t, POINTER(ReadRecord)),
+    "hidzgula_live_open": (_LIVE, c_uint64, c_uint8, POINTER(LiveSettingsRecord)),
+    "hidzgula_live_close": (_LIVE,),
+    "hidzgula_live_hear": (_LIVE, c_uint32, c_char_p, c_size_t, c_uint64, _CHANGE),
+    "hidzgula_live_missed": (_LIVE, c_uint32, c_uint64, _CHANGE),
+    "hidzgula_live_next": (_LIVE, c_uint64, POINTER(FrameRecord), POINTER(c_uint8)),
+    "hidzgula_live_when": (_LIVE, c_uint64, POINTER(c_uint64)),
+    "hidzgula_live_ask": (_LIVE, c_uint64, c_uint32),
+    "hidzgula_live_ask_all": (_LIVE, c_uint32),
+    "hidzgula_live_clear": (_LIVE, c_uint64, c_uint32),
+    "hidzgula_live_command": (_LIVE, c_uint64, c_uint8),
+    "hidzgula_live_end": (_LIVE, c_uint64),
+    "hidzgula_live_verdict": (_LIVE, POINTER(VerdictRecord)),
+    "hidzgula_live_held": (_LIVE, POINTER(c_uint8), POINTER(c_uint8)),
+    "hidzgula_live_counts": (_LIVE, POINTER(c_uint64), POINTER(c_uint64)),
+    "hidzgula_live_rows": (_LIVE, POINTER(c_size_t)),
+    "hidzgula_live_row": (_LIVE, c_size_t, POINTER(RowRecord)),
+    "hidzgula_live_entries": (_LIVE, c_uint64, c_uint8, POINTER(c_uint64)),
+    "hidzgula_live_entry": (_LIVE, c_uint64, c_uint8, c_uint64, POINTER(EntryRecord)),
+    "hidzgula_live_code": (_LIVE, c_uint64, c_uint8, c_uint64, c_size_t, POINTER(CodeRecord)),
     "hidzgula_listener_open": (_LISTENER, c_uint32),
     "hidzgula_listener_close": (_LISTENER,),
     "hidzgula_listener_take_at": (_LISTENER, c_uint64, c_uint32, c_char_p, c_size_t, _HEARD),
@@ -244,7 +299,7 @@ CALLS = {
     "hidzgula_unit_counts": (_UNIT, POINTER(UnitCountsRecord)),
 }
 
-ANSWERS_NOTHING = {"hidzgula_close", "hidzgula_listener_close", "hidzgula_read_log", "hidzgula_unit_close"}
+ANSWERS_NOTHING = {"hidzgula_close", "hidzgula_listener_close", "hidzgula_live_close", "hidzgula_read_log", "hidzgula_unit_close"}
 
 # The library in the wheel, or the one that the environment names.
 PATH = os.environ.get("HIDZGULA_LIBRARY") or str(pathlib.Path(__file__).with_name("libhidzgula_station.so"))

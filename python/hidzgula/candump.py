@@ -9,7 +9,6 @@ from .listener import Listener
 from .records import BadLine, Frame, Heard, LogCounts, Logged
 from .station import FRAME, instance_of
 
-_ERROR_FLAG = 0x20000000
 _CONTROLLER_ERROR = 0x00000004
 _RECEIVE_OVERFLOW = 0x01
 

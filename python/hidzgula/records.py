@@ -36,6 +36,8 @@ class What(enum.IntEnum):
     """`count` frames were missed: no address has an owner until NAMEs claim again."""
     BROKEN = 8
     """Of a listener: a message of several packets broke; it was half read, and is neither that nor whole now."""
+    STRANGER = 9
+    """Of a live station: somebody else sends from the station's own address."""
 
 
 class Frame(NamedTuple):
@@ -352,3 +354,76 @@ class LogCounts(NamedTuple):
     """Frames that it was told of as missed, one for each bad line among them, unless bad lines were passed over."""
     bad: int
     """Lines that begin as one of a log, and are none."""
+
+
+class Finding(enum.IntEnum):
+    """What came of an order of a live station."""
+
+    ANSWERED = 2
+    """A message that began after the request ended, or a claim came."""
+    UNREAD = 3
+    """A message that began after the request ended, and cannot be read."""
+    POSITIVE = 4
+    """The unit says that it cleared."""
+    REFUSED = 5
+    """The unit refused, with `control`."""
+    BUSY = 6
+    """The unit could not answer now, three times."""
+    OBEYED = 7
+    """The NAME holds the address that it was commanded to hold."""
+    NO_SUCH_UNIT = 8
+    """No address of the NAME is known, though claims were asked for."""
+    SILENT = 9
+    """Nothing came."""
+    IN_DOUBT = 10
+    """A clear was written, and nobody knows whether it was done, for `doubt`."""
+    LOST_ADDRESS = 11
+    """The station holds no address."""
+    CUT_OFF = 12
+    """It was ended first."""
+
+
+class Doubt(enum.IntEnum):
+    """Why nobody knows whether a clear was done."""
+
+    UNIT = 1
+    """The NAME moved, gave up, or another NAME claimed its address."""
+    MISSED = 2
+    """Frames were missed."""
+    ADDRESS = 3
+    """Another NAME claimed the station's own address."""
+    STRANGER = 4
+    """Somebody else sends from the station's own address."""
+
+
+class Verdict(NamedTuple):
+    """What came of an order of a live station."""
+
+    finding: Finding
+    name: Optional[int]
+    """The NAME of its unit; None where all were asked."""
+    pgn: int
+    """The parameter group that was asked for; of a command 65240."""
+    tries: int
+    """How often it was written, 0 to 3."""
+    address: Optional[int] = None
+    """The address to which it was written, where it was, and to one."""
+    after: Optional[int] = None
+    """Microseconds since it was written, the last time."""
+    control: Optional[int] = None
+    """Of REFUSED: 1 negative, 2 access denied, or another number."""
+    doubt: Optional[Doubt] = None
+    """Of IN_DOUBT."""
+    was_sent: Optional[bool] = None
+    """Of CUT_OFF: whether it was written."""
+    commanded: Optional[int] = None
+    """Of a command: the address."""
+    left: Optional[Finding] = None
+    """Of a clear that was written: what came of asking what is left."""
+    message: Optional[Message] = None
+    """The message that answered one unit's order, or shows what a clear left, where it is kept."""
+
+    @property
+    def is_cleared(self) -> bool:
+        """Whether the unit says that it cleared, and a message that began after that has no code."""
+        return self.finding == Finding.POSITIVE and self.left == Finding.ANSWERED and self.message is not None and not self.message.codes

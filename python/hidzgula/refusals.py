@@ -34,6 +34,8 @@ REFUSALS: Dict[int, Tuple[str, str]] = {
     39: ("NOT_PENDING", "the code to go away is not pending"),
     40: ("NO_LISTENER", "the listener is closed"),
     41: ("HAS_LISTENER", "the handle has an open listener"),
+    42: ("ORDER_OPEN", "another order is open"),
+    43: ("NO_GROUP", "a parameter group that no order asks for, or by which one does not clear"),
 }
 
 

@@ -5,7 +5,7 @@ import operator
 import re
 import struct
 import threading
-from typing import Any, Callable, Dict, List, Optional, Sequence, Tuple, Union
+from typing import Any, Callable, Dict, List, NamedTuple, Optional, Sequence, Tuple, Union
 
 from ._library import (
     ChangeRecord,
@@ -51,7 +51,115 @@ _WHATS = {what.value: what for what in What}
 _KINDS: Dict[int, Optional[Kind]] = {0: None, **{kind.value: kind for kind in Kind}}
 
 
-class Station:
+class Queries(NamedTuple):
+    """The calls by which a station tells what it knows."""
+
+    held: Any
+    rows: Any
+    row: Any
+    counts: Any
+    entries: Any
+    entry: Any
+    code: Any
+
+
+class Known:
+    """What a station knows of units, of its own address, and of what it could not read."""
+
+    _calls: Queries
+    _station: Any
+    _lock: Any
+    _keep: int
+
+    @property
+    def address(self) -> Optional[int]:
+        """Its own address, 0 to 253, where it holds one.
+
+        Raises Refused NO_STATION.
+        """
+        has, address = ctypes.c_uint8(), ctypes.c_uint8()
+        with self._lock:
+            done(self._calls.held(self._station, has, address))
+        return address.value if has.value else None
+
+    def units(self) -> List[Unit]:
+        """What is known of each NAME whose claim was read, in the order of their first claims.
+
+        Raises Refused NO_STATION.
+        """
+        count, row = ctypes.c_size_t(), RowRecord()
+        units = []
+        with self._lock:
+            done(self._calls.rows(self._station, count))
+            for place in range(count.value):
+                done(self._calls.row(self._station, place, row))
+                units.append(unit_of(row))
+        return units
+
+    def count(self, name: int, kind: int) -> int:
+        """How many messages of a kind came under a NAME, whatever is kept of them, up to 2^64 - 1; 0 for a NAME that is not known.
+
+        Raises Refused NO_KIND, NO_STATION.
+        """
+        with self._lock:
+            return self._count(*_list_of(name, kind))
+
+    def messages(self, name: int, kind: int) -> List[Message]:
+        """The messages of a kind that came under a NAME and are kept, the oldest first; none for a NAME that is not known.
+
+        Raises Refused NO_KIND, NO_STATION.
+        """
+        name, kind = _list_of(name, kind)
+        with self._lock:
+            count = self._count(name, kind)
+            return [self._message(name, kind, place) for place in range(max(0, count - self._keep), count)]
+
+    def message(self, name: int, kind: int, place: int) -> Message:
+        """The message at a place among all of its list that came, from 0. A message keeps its place while others come.
+
+        Raises Refused NO_KIND, NO_STATION, NOT_KEPT where it came and is kept no longer, NO_PLACE where it never came.
+        """
+        name, kind = _list_of(name, kind)
+        place = number_of("place", place, 2**64 - 1, most_is_refused=True)
+        with self._lock:
+            return self._message(name, kind, place)
+
+    def newest(self, name: int, kind: int) -> Optional[Message]:
+        """The newest message of a kind under a NAME; None where none came, or none is kept.
+
+        Raises Refused NO_KIND, NO_STATION.
+        """
+        name, kind = _list_of(name, kind)
+        with self._lock:
+            count = self._count(name, kind)
+            return self._message(name, kind, count - 1) if count and self._keep else None
+
+    def counts(self) -> Counts:
+        """How many frames were missed, and how many messages ended that could not be read; each up to 2^64 - 1.
+
+        Raises Refused NO_STATION.
+        """
+        missed, unread = ctypes.c_uint64(), ctypes.c_uint64()
+        with self._lock:
+            done(self._calls.counts(self._station, missed, unread))
+        return Counts(missed.value, unread.value)
+
+    def _count(self, name: int, kind: int) -> int:
+        count = ctypes.c_uint64()
+        done(self._calls.entries(self._station, name, kind, count))
+        return count.value
+
+    def _message(self, name: int, kind: int, place: int) -> Message:
+        entry, code = EntryRecord(), CodeRecord()
+        done(self._calls.entry(self._station, name, kind, place, entry))
+        codes = []
+        for at in range(entry.codes):
+            done(self._calls.code(self._station, name, kind, place, at, code))
+            codes.append(Code(code.spn, code.fmi, code.count))
+        return Message(place, Lamps(entry.lamps, entry.flashes), tuple(codes))
+
+
+class Station(Known):
     """A diagnostic station for SAE J1939 on one bus: it is handed the frames that are read of that bus, says what is to be sent, and lists what
     they tell by NAME. Who only listens is a `Listener`.
 
@@ -64,6 +172,16 @@ class Station:
             station.take(0x18FECA00, bytes.fromhex("04FFB8040301FFFF"))
             print(*station.messages(0xA0, DM1))
     """
+
+    _calls = Queries(
+        library.hidzgula_held,
+        library.hidzgula_rows,
+        library.hidzgula_row,
+        library.hidzgula_counts,
+        library.hidzgula_entries,
+        library.hidzgula_entry,
+        library.hidzgula_code,
+    )
 
     def __init__(self, name: int, address: int, *, grant: int = 255, keep: Optional[int] = None, **more: Any) -> None:
         """Opens a station that has read nothing.
@@ -132,7 +250,7 @@ class Station:
         data = octets_of(data)
         with self._lock:
             done(library.hidzgula_take_frame_telling(self._station, id, data, len(data), self._reply, self._change))
-            return Taken(_reply_of(self._reply), _change_of(self._change))
+            return Taken(_reply_of(self._reply), change_of(self._change))
 
     def take_frames(self, frames: Sequence[Tuple[int, Octets]], start: int = 0) -> TakenFrames:
         """Takes frames, each an identifier and its bytes, from the place `start` on, as `take` does one after the other.
@@ -180,7 +298,7 @@ class Station:
         count = number_of("count", count, 2**32 - 1)
         with self._lock:
             done(library.hidzgula_take_gap_telling(self._station, count, self._reply, self._change))
-            return Taken(_reply_of(self._reply), _change_of(self._change))
+            return Taken(_reply_of(self._reply), change_of(self._change))
 
     # ---- what it sends
 
@@ -223,95 +341,6 @@ class Station:
         with self._lock:
             done(call(self._station, *words, self._reply))
             return _reply_of(self._reply)
-
-    # ---- what it knows
-
-    @property
-    def address(self) -> Optional[int]:
-        """Its own address, 0 to 253, where it holds one.
-
-        Raises Refused NO_STATION.
-        """
-        has, address = ctypes.c_uint8(), ctypes.c_uint8()
-        with self._lock:
-            done(library.hidzgula_held(self._station, has, address))
-        return address.value if has.value else None
-
-    def units(self) -> List[Unit]:
-        """What is known of each NAME whose claim was read, in the order of their first claims.
-
-        Raises Refused NO_STATION.
-        """
-        count, row = ctypes.c_size_t(), RowRecord()
-        units = []
-        with self._lock:
-            done(library.hidzgula_rows(self._station, count))
-            for place in range(count.value):
-                done(library.hidzgula_row(self._station, place, row))
-                units.append(unit_of(row))
-        return units
-
-    def count(self, name: int, kind: int) -> int:
-        """How many messages of a kind came under a NAME, whatever is kept of them, up to 2^64 - 1; 0 for a NAME that is not known.
-
-        Raises Refused NO_KIND, NO_STATION.
-        """
-        with self._lock:
-            return self._count(*_list_of(name, kind))
-
-    def messages(self, name: int, kind: int) -> List[Message]:
-        """The messages of a kind that came under a NAME and are kept, the oldest first; none for a NAME that is not known.
-
-        Raises Refused NO_KIND, NO_STATION.
-        """
-        name, kind = _list_of(name, kind)
-        with self._lock:
-            count = self._count(name, kind)
-            return [self._message(name, kind, place) for place in range(max(0, count - self._keep), count)]
-
-    def message(self, name: int, kind: int, place: int) -> Message:
-        """The message at a place among all of its list that came, from 0. A message keeps its place while others come.
-
-        Raises Refused NO_KIND, NO_STATION, NOT_KEPT where it came and is kept no longer, NO_PLACE where it never came.
-        """
-        name, kind = _list_of(name, kind)
-        place = number_of("place", place, 2**64 - 1, most_is_refused=True)
-        with self._lock:
-            return self._message(name, kind, place)
-
-    def newest(self, name: int, kind: int) -> Optional[Message]:
-        """The newest message of a kind under a NAME; None where none came, or none is kept.
-
-        Raises Refused NO_KIND, NO_STATION.
-        """
-        name, kind = _list_of(name, kind)
-        with self._lock:
-            count = self._count(name, kind)
-            return self._message(name, kind, count - 1) if count and self._keep else None
-
-    def counts(self) -> Counts:
-        """How many frames were missed, and how many messages ended that could not be read; each up to 2^64 - 1.
-
-        Raises Refused NO_STATION.
-        """
-        missed, unread = ctypes.c_uint64(), ctypes.c_uint64()
-        with self._lock:
-            done(library.hidzgula_counts(self._station, missed, unread))
-        return Counts(missed.value, unread.value)
-
-    def _count(self, name: int, kind: int) -> int:
-        count = ctypes.c_uint64()
-        done(library.hidzgula_entries(self._station, name, kind, count))
-        return count.value
-
-    def _message(self, name: int, kind: int, place: int) -> Message:
-        entry, code = EntryRecord(), CodeRecord()
-        done(library.hidzgula_entry(self._station, name, kind, place, entry))
-        codes = []
-        for at in range(entry.codes):
-            done(library.hidzgula_code(self._station, name, kind, place, at, code))
-            codes.append(Code(code.spn, code.fmi, code.count))
-        return Message(place, Lamps(entry.lamps, entry.flashes), tuple(codes))
 
 
 def done(status: int) -> None:
@@ -414,7 +443,7 @@ def _add_changes(changes: List[Tuple[int, Change]], records: Any, count: int, fi
         changes.append((first + at, _change(_CHANGE.unpack_from(told, at * _CHANGE.size))))
 
 
-def _change_of(record: ChangeRecord) -> Change:
+def change_of(record: ChangeRecord) -> Change:
     """What a record of the library tells."""
     return _change(_CHANGE.unpack_from(record))
 

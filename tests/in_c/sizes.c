@@ -1,4 +1,4 @@
-/* What a station and a simulated unit take: the stack of each call, seen on a thread's stack that was painted before, and the memory, by counting what
+/* What a station, a simulated unit and a live station take: the stack of each call, seen on a thread's stack that was painted before, and the memory, by counting what
  * malloc and realloc give. The candump log comes on standard input; the word that the program is given is how many entries of each list are
  * kept, all where there is none. A line for each figure. */
 #define _GNU_SOURCE
@@ -191,6 +191,57 @@ static void *close_unit(void *unused)
     return unused;
 }
 
+static hidzgula_live tester = HIDZGULA_EMPTY;
+
+static void *open_live(void *unused)
+{
+    const hidzgula_live_settings settings = { 50000, 250000, keep, 255 };
+    if (hidzgula_live_open(&tester, 0x10000000000000FA, 248, &settings) != HIDZGULA_DONE) abort();
+    return unused;
+}
+
+/* the frames of the log, a millisecond apart, each with all that goes; and orders, one behind the other */
+static void *live_hears_all(void *unused)
+{
+    hidzgula_frame frame;
+    hidzgula_change change;
+    hidzgula_verdict verdict;
+    uint8_t has = 1;
+    for (size_t i = 0; i < frame_count; i++, now += 1000) {
+        hidzgula_live_hear(&tester, frames[i].id, frames[i].bytes, frames[i].length, now, &change);
+        while (hidzgula_live_next(&tester, now, &frame, &has) == HIDZGULA_DONE && has) continue;
+        hidzgula_live_verdict(&tester, &verdict);
+        if (verdict.what == HIDZGULA_OPEN) continue;
+        if (i % 3 == 0) hidzgula_live_ask(&tester, 0x1000000001419907, HIDZGULA_PGN_DM2);
+        else if (i % 3 == 1) hidzgula_live_clear(&tester, 0x1000000001419907, HIDZGULA_PGN_DM3);
+        else hidzgula_live_command(&tester, 0x1000000001419907, 100);
+    }
+    hidzgula_live_missed(&tester, 1, now, &change);
+    return unused;
+}
+
+static void *ask_live(void *unused)
+{
+    hidzgula_row_out row;
+    hidzgula_entry_out entry;
+    hidzgula_code_out code;
+    uint64_t at, entries;
+    size_t rows;
+    hidzgula_live_when(&tester, now, &at);
+    hidzgula_live_rows(&tester, &rows);
+    hidzgula_live_row(&tester, 0, &row);
+    hidzgula_live_entries(&tester, row.name, HIDZGULA_DM1, &entries);
+    hidzgula_live_entry(&tester, row.name, HIDZGULA_DM1, entries - 1, &entry);
+    hidzgula_live_code(&tester, row.name, HIDZGULA_DM1, entries - 1, 0, &code);
+    return unused;
+}
+
+static void *close_live(void *unused)
+{
+    hidzgula_live_close(&tester);
+    return unused;
+}
+
 /* how many bytes of its stack a thread with this work touched */
 static size_t stack_of(void *(*work)(void *))
 {
@@ -215,7 +266,8 @@ int main(int argc, char **argv)
         void *(*work)(void *);
     } works[] = { { "open", open_one }, { "take_frame", take_all }, { "queries", ask_for_lists }, { "orders", order }, { "take_gap", miss },
         { "take_frames", take_rows }, { "read_log", read_lines }, { "close", close_it }, { "unit_open", open_unit }, { "unit_set, heal, lamps", fill_memory },
-        { "unit_next", ask_for_frames }, { "unit_begin", begin_all }, { "unit_hear and next", hear_all }, { "unit queries", ask_unit }, { "unit_close", close_unit } };
+        { "unit_next", ask_for_frames }, { "unit_begin", begin_all }, { "unit_hear and next", hear_all }, { "unit queries", ask_unit }, { "unit_close", close_unit },
+        { "live_open", open_live }, { "live_hear, next and orders", live_hears_all }, { "live queries", ask_live }, { "live_close", close_live } };
     if (argc > 1) keep = (uint32_t)strtoul(argv[1], NULL, 10);
     read_frames();
     size_t base = stack_of(nothing);

@@ -8,7 +8,7 @@ import threading
 import time
 
 import hidzgula
-from hidzgula import DM1, DM2, DM6, PGN_DM2, PGN_DM6, Lamps, What, bench
+from hidzgula import DM1, DM6, PGN_DM2, PGN_DM6, Lamps, What, bench
 from hidzgula.bench import Bench, assert_dm1, assert_dm2, assert_dm6
 from tries import raised, same, sums
 

@@ -233,6 +233,14 @@ def of_units():
     unit.close()
 
 
+def of_live_stations():
+    with hidzgula.LiveStation(1, 249) as station:
+        refused("a group", "NO_GROUP", station.ask, 0xA0, 65260)
+        station.ask(0xA0, DM1)
+        refused("a second order", "ORDER_OPEN", station.ask, 0xA0, DM1)
+        refused("a second order, whatever it is", "ORDER_OPEN", station.command, 0xA0, 254)
+
+
 def numbers():
     """Each refusal of the header stands here, under its number."""
     header = (TOP / "c/hidzgula_station.h").read_text()
@@ -256,5 +264,6 @@ without_address()
 closed()
 of_listeners()
 of_units()
+of_live_stations()
 numbers()
 sums()

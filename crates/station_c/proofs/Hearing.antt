@@ -1,11 +1,10 @@
 -- What a listener with its lists took, and frames that it took one after the other.
-use Rattle.std.proofs.Common.{◌≡◌, ◌+◌, ◌<◌, ◌≤◌, ◌^◌, ◌&&◌, ℕ, Bool, true, false, List, [], ◌∷◌, ◌++◌, Option, take, length, get_or, set, refl, sym, ap, ◌∙◌, subst}
+use Rattle.std.proofs.Common.{◌≡◌, ◌+◌, ◌<◌, ◌≤◌, ◌^◌, ◌&&◌, ℕ, Bool, true, false, List, [], ◌∷◌, ◌++◌, Option, take, length, get_or, set, sym, ap, ◌∙◌, subst}
 use Rattle.std.specs.List.{list_all}
 use Rattle.std.proofs.lemmas.List.{take_more, take_more_set}
 use Rattle.bus_model.specs.declared.overheard.Overheard.{Overheard}
 use Rattle.can_frame.specs.FrameValue.{FrameValue}
 use Rattle.can_frame.specs.declared.reading.Reading.{Reading}
-use Rattle.listener.specs.ListenerValue.{ListenerValue}
 use Rattle.listener.specs.NewestSent.{HasNewestSent, NewestSentValue}
 use Rattle.listener.specs.Broken.{BrokenValue, broken_count, may_end, with_numbers, those_broken, was_whole}
 use Rattle.listener.specs.Paced.{IsHeard, PacedValue, fate_in, listed_in, paces_after, reading_in}

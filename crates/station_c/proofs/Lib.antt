@@ -11,3 +11,5 @@ pub mod UnitHandleValues
 pub mod ListenerHandleValues
 pub mod Hearing
 pub mod Commanded
+pub mod LiveHandleValues
+pub mod LiveKeeping

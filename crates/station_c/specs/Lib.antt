@@ -14,3 +14,7 @@ pub mod ListedListeners
 pub mod ListenerHandles
 pub mod HeardRecords
 pub mod HeardSeries
+pub mod HeldLives
+pub mod ListedLives
+pub mod LiveHandles
+pub mod LiveRecords

@@ -4,12 +4,16 @@ use Rattle.can_frame.specs.declared.frame.FrameError.{FrameError}
 use Rattle.can_frame.specs.declared.frame.FrameError.TheVariants as frame
 use Rattle.fault_memory.specs.declared.error.FaultError.{FaultError}
 use Rattle.fault_memory.specs.declared.error.FaultError.TheVariants as fault
+use Rattle.live_station.specs.declared.error.HearError.{HearError}
+use Rattle.live_station.specs.declared.error.HearError.TheVariants as hearing
+use Rattle.live_station.specs.declared.error.OrderError.{OrderError}
+use Rattle.live_station.specs.declared.error.OrderError.TheVariants as order
 use Rattle.live_unit.specs.declared.error.LiveError.{LiveError}
 use Rattle.live_unit.specs.declared.error.LiveError.TheVariants as live
 use Rattle.station_table.specs.declared.error.StationError.{StationError}
 use Rattle.station_table.specs.declared.error.StationError.TheVariants as station
 use Rattle.station_c.specs.declared.status.Status.{Status}
-use Rattle.station_c.specs.declared.status.Status.TheVariants.{Done, IdTooLarge, TooLong, NotAnAddress, NoAddress, NotHeld, BadSetting, PgnTooLarge, NoStation, HasStation, NoPlace, NoKind, OutOfMemory, NotKept, SpnTooLarge, FmiTooLarge, MemoryFull, NotActive, NoUnit, HasUnit, QueueFull, SessionOpen, NotPending, NoListener, HasListener}
+use Rattle.station_c.specs.declared.status.Status.TheVariants.{Done, IdTooLarge, TooLong, NotAnAddress, NoAddress, NotHeld, BadSetting, PgnTooLarge, NoStation, HasStation, NoPlace, NoKind, OutOfMemory, NotKept, SpnTooLarge, FmiTooLarge, MemoryFull, NotActive, NoUnit, HasUnit, QueueFull, SessionOpen, NotPending, NoListener, HasListener, OrderOpen, NoGroup}
 
 -- the number of each
 abbrev pub status_number : Status → ℕ
@@ -38,6 +42,8 @@ status_number SessionOpen = 38
 status_number NotPending = 39
 status_number NoListener = 40
 status_number HasListener = 41
+status_number OrderOpen = 42
+status_number NoGroup = 43
 
 -- the refusal of a frame
 abbrev pub status_of_frame : FrameError → Status
@@ -65,6 +71,16 @@ abbrev pub status_of_live : LiveError → Status
 status_of_live live.OutOfMemory = OutOfMemory
 status_of_live live.Unclaimed = NotHeld
 status_of_live live.Full = QueueFull
+
+-- the refusal of a frame by a live station
+abbrev pub status_of_hearing : HearError → Status
+status_of_hearing hearing.OutOfMemory = OutOfMemory
+status_of_hearing hearing.Full = QueueFull
+
+-- the refusal of an order
+abbrev pub status_of_order : OrderError → Status
+status_of_order order.Open = OrderOpen
+status_of_order order.NotAnAddress = NotAnAddress
 
 -- the number that a call answered is this one's
 abbrev pub Answers : ℕ → Status → Type 0

@@ -1,8 +1,10 @@
 //! What a reading changed, for C, in C's layout. `c/hidzgula_station.h` has the same struct.
 ghost use Rattle.std.specs.Prelude.{◌≡◌};
+ghost use Rattle.station_c.specs.LiveRecords.{change_told_on_bus};
 ghost use Rattle.station_c.specs.Records.{TellsChange, no_change, kind_told, with_displaced};
 
 use dm_messages::Kind;
+use live_station::Told;
 use name_field::Name;
 use station_table::{Change, Displaced};
 
@@ -18,7 +20,7 @@ pub struct ChangeRecord {
     pub pgn: u32,
     /// How many frames were missed (7).
     pub count: u32,
-    /// 0 nothing, 1 claimed, 2 gave up, 3 acknowledged, 4 listed, 5 unreadable, 6 unowned, 7 missed.
+    /// 0 nothing, 1 claimed, 2 gave up, 3 acknowledged, 4 listed, 5 unreadable, 6 unowned, 7 missed; of a live station 9 stranger.
     pub what: u8,
     /// The address that was claimed (1), or from which the message came (4, 5, 6).
     pub address: u8,
@@ -140,6 +142,19 @@ impl ChangeRecord {
                 ..ChangeRecord::nothing()
             },
         }
+    }
+
+    /// The record of what a frame changed, or missed ones, of what a live station shows.
+    pub fn of_told(told: &Told) -> ChangeRecord
+        ensures { result ≡ change_told_on_bus told.now }
+    {
+        if told.stranger {
+            return ChangeRecord {
+                what: 9,
+                ..ChangeRecord::nothing()
+            };
+        }
+        ChangeRecord::of(&told.change)
     }
 }
 

@@ -2,10 +2,11 @@
 
 mod hearing;
 pub(crate) mod lists;
+mod live;
 mod logs;
 mod open;
 mod orders;
 mod readings;
 mod series;
 mod simulated;
-mod units;
+pub(crate) mod units;

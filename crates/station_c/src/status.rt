@@ -2,6 +2,7 @@ ghost use Rattle.std.specs.Prelude.{◌≡◌};
 
 use can_frame::FrameError;
 use fault_memory::FaultError;
+use live_station::{HearError, OrderError};
 use live_unit::LiveError;
 use station_table::StationError;
 
@@ -58,10 +59,14 @@ pub enum Status {
     NoListener,
     /// The handle has a listener already.
     HasListener,
+    /// Another order is open.
+    OrderOpen,
+    /// The parameter group is none that an order asks for, or by which one clears.
+    NoGroup,
 }
 
 impl Status {
-    ghost use Rattle.station_c.specs.Statuses.{status_number, status_of_fault, status_of_frame, status_of_live, status_of_station};
+    ghost use Rattle.station_c.specs.Statuses.{status_number, status_of_fault, status_of_frame, status_of_hearing, status_of_live, status_of_order, status_of_station};
 
     /// The number that C sees: 0 where it was done; of a refusal that other crates give too, theirs, but for `NotPending`, whose
     /// number there is that of `NoStation` here; 33 where memory was refused.
@@ -94,6 +99,8 @@ impl Status {
             Status::NotPending => 39,
             Status::NoListener => 40,
             Status::HasListener => 41,
+            Status::OrderOpen => 42,
+            Status::NoGroup => 43,
         }
     }
 
@@ -141,6 +148,26 @@ impl Status {
             LiveError::OutOfMemory => Status::OutOfMemory,
             LiveError::Unclaimed => Status::NotHeld,
             LiveError::Full => Status::QueueFull,
+        }
+    }
+
+    /// What stands for the refusal of a frame by a live station.
+    pub fn of_hearing(refusal: HearError) -> Status
+        ensures { result ≡ status_of_hearing refusal }
+    {
+        match refusal {
+            HearError::OutOfMemory => Status::OutOfMemory,
+            HearError::Full => Status::QueueFull,
+        }
+    }
+
+    /// What stands for the refusal of an order.
+    pub fn of_order(refusal: OrderError) -> Status
+        ensures { result ≡ status_of_order refusal }
+    {
+        match refusal {
+            OrderError::Open => Status::OrderOpen,
+            OrderError::NotAnAddress => Status::NotAnAddress,
         }
     }
 }

@@ -176,7 +176,7 @@ pub(crate) fn place_among_kept(count: u64, keep: u32, place: u64) -> Result<usiz
 }
 
 /// The entry at this place of a list.
-fn entry_at(
+pub(crate) fn entry_at(
     lists: &NewestEntries,
     name: Name,
     kind: Kind,
@@ -201,7 +201,7 @@ fn entry_at(
 }
 
 /// The code at this place of an entry of a list.
-fn code_at(
+pub(crate) fn code_at(
     lists: &NewestEntries,
     name: Name,
     kind: Kind,

@@ -144,7 +144,7 @@ pub extern "C" fn hidzgula_row(
 
 /// The row of a station at this place.
 #[tactic(auto, using(crate::proofs::Named::named_has_row))]
-fn row_at(station: &Station, place: usize) -> Option<RowRecord>
+pub(crate) fn row_at(station: &Station, place: usize) -> Option<RowRecord>
     ensures found { IfSome result (λ row. (r : StationSettings) (grant : ℕ) (h : List AnyReading) → StandsFor r grant station.now h
         → (slice_get (names_heard h) place ≡ Some row.name) × (row_heard r row.name h ≡ Some (row_in row))) }
     ensures none { IsNone result → (r : StationSettings) (grant : ℕ) (h : List AnyReading) → StandsFor r grant station.now h

@@ -2,7 +2,6 @@
 use Rattle.std.proofs.Common.{◌≡◌, ℕ, ◌+◌, ◌-◌, List, Some, drop, length, take, refl, ap, ◌∙◌, subst, arith}
 use Rattle.std.proofs.lemmas.List.{length-drop, take_all}
 use Rattle.memchr.specs.Find.{IsFirstByte, is_byte}
-use Rattle.station_c.specs.Lines.{TellsAt}
 use Rattle.station_c.proofs.exports.logs.told_at.Goals as goal
 
 -- all that stands behind a place

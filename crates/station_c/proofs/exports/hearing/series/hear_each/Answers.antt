@@ -1,4 +1,4 @@
-use Rattle.std.proofs.Common.{rules, arith, refl, ◌≡◌, ◌<◌, length, true, false}
+use Rattle.std.proofs.Common.{rules, arith, refl, ◌≡◌, ◌<◌, length, true}
 use Rattle.station_c.specs.HeardSeries.{HearsNone, tells_all}
 use Rattle.station_c.specs.declared.status.Status.TheVariants.{Done}
 use Rattle.station_c.proofs.Hearing.{heard_more, told_more}

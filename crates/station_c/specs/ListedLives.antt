@@ -1,0 +1,44 @@
+-- A live station, the lists that it fills, and the verdict of the newest order that ended.
+use Rattle.std.specs.Prelude.{◌≡◌, ℕ, List, Option, Some, None, option_map}
+use Rattle.bus_model.specs.Heard.{StationSettings}
+use Rattle.can_frame.specs.declared.reading.Reading.{Reading}
+use Rattle.entry_lists.specs.Newest.{KeepsNewest, NewestLists}
+use Rattle.live_station.specs.Ear.{frames_told}
+use Rattle.live_station.specs.OpenOrders.{begun_order, order_cut_off}
+use Rattle.live_station.specs.Working.{WorkingValue}
+use Rattle.live_station.specs.declared.order.Order.{Order}
+use Rattle.live_station.specs.declared.pulled.Pulled.{Pulled}
+use Rattle.live_station.specs.declared.pulled.Pulled.TheVariants.{Verdict as PulledVerdict}
+use Rattle.live_station.specs.declared.verdict.Verdict.{Verdict}
+use Rattle.station_table.specs.Listing.{lists_heard}
+use Rattle.station_table.specs.StandsFor.{StandsFor}
+
+-- the station; which entries are kept; and the verdict of the newest order, once it ended
+pub record ListedLiveValue : Type 0 where
+  pub live : WorkingValue
+  pub lists : NewestLists
+  pub last : Option Verdict
+
+-- of two verdicts the newer one, if there is one
+abbrev pub newer_verdict : Option Verdict → Option Verdict → Option Verdict
+newer_verdict None before = before
+newer_verdict (Some verdict) before = Some verdict
+
+-- it stands for what it was told of these readings, newest first, and keeps so many of the newest entries of each list that was heard of them
+pub record StandsLive (r : StationSettings) (grant keep : ℕ) (v : ListedLiveValue) (h : List Reading) : Type 0 where
+  pub station : StandsFor r grant v.live.station (frames_told r h)
+  pub lists : KeepsNewest v.lists (lists_heard r (frames_told r h))
+  pub keep_is : v.lists.keep ≡ keep
+
+-- an order was opened; the verdict of the one before is forgotten
+abbrev pub with_order : Order → ListedLiveValue → ListedLiveValue
+with_order order v = record v { live = record v.live { order = Some (begun_order order) }; last = None }
+
+-- the open order, if one is open, was cut off
+abbrev pub with_order_ended : ℕ → ListedLiveValue → ListedLiveValue
+with_order_ended now v = record v { live = record v.live { order = None }; last = newer_verdict (option_map (order_cut_off now) v.live.order) v.last }
+
+-- what goes is the verdict of an order
+abbrev pub verdict_pulled : Pulled → Option Verdict
+verdict_pulled (PulledVerdict verdict) = Some verdict
+verdict_pulled _ = None

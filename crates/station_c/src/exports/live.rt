@@ -1,0 +1,8 @@
+//! A live station in a handle: one that says when what is written, and carries out orders. Each function takes a handle that it may find
+//! empty.
+
+mod frames;
+mod lists;
+mod open;
+mod orders;
+mod units;

@@ -1,0 +1,183 @@
+ghost use Rattle.std.specs.Prelude.{◌≡◌, ◌↔◌, ◌⊎◌, ◌≤◌, ◌<◌, ◌∷◌, ℕ, List, [], None, IfErr, IfOk, IsErrOf, IsNone, IsSome, OnErr, OnOk, true};
+ghost use Rattle.can_frame.specs.declared.address.TheConstants.{GREATEST_ADDRESS as GREATEST};
+ghost use Rattle.can_frame.specs.declared.reading.Reading.{Reading as AnyReading};
+ghost use Rattle.can_frame.specs.declared.reading.Reading.TheVariants.{Frame as FrameRead, Gap as GapRead};
+ghost use Rattle.bus_model.specs.Heard.{StationSettings};
+ghost use Rattle.live_station.specs.OpenOrders.{commands_too_far};
+ghost use Rattle.live_station.specs.Working.{DoesTurn, HearsOnBus, IsSentFromOwn, LacksRoomToHear, MissesFrames, begun_station, turn_at};
+ghost use Rattle.live_unit.specs.declared.queue.TheConstants.{MOST_PUT as MOST};
+ghost use Rattle.station_c.specs.ListedLives.{StandsLive, newer_verdict, verdict_pulled, with_order, with_order_ended};
+
+use can_frame::Frame;
+use entry_lists::NewestEntries;
+use live_station::{
+    HearError, LiveStation, Order, OrderError, Pulled, StationTimes, Told, Verdict,
+};
+use name_field::Name;
+use std::alloc::{AllocError, Global};
+use std::marker::Model;
+
+/// A live station, the lists that it fills, and the verdict of the newest order that ended.
+#[derive(Drop)]
+pub struct ListedLive {
+    live: LiveStation,
+    lists: NewestEntries,
+    last: Option<Verdict>,
+}
+
+impl Model for ListedLive {
+    ghost use Rattle.station_c.specs.ListedLives.{ListedLiveValue};
+
+    ghost Value = { ListedLiveValue };
+
+    ghost view = { λ s. record { live = s.live; lists = s.lists; last = s.last } };
+}
+
+impl ListedLive {
+    /// A station of this NAME that holds the address that it wants, 0 to 253, and grants at most so many packets at once, at least one.
+    /// It has heard nothing, and no order was given; of each list this many entries are kept, or none where it is 0.
+    #[tactic(auto, using(crate::proofs::LiveKeeping::stands_at_first))]
+    pub fn new(
+        alloc: Global,
+        name: Name,
+        want: u8,
+        grant: u8,
+        keep: u32,
+        times: StationTimes,
+    ) -> Result<ListedLive, AllocError>
+        requires address_fits { want ≤ GREATEST }
+        requires grants { 0 < grant }
+        ensures value { IfOk result (λ s. s ≡ record { live = begun_station name want grant times; lists = record { keep = keep; rows = [] }; last = None }) }
+        ensures stands { IfOk result (λ s. StandsLive (record { name = name; address = want }) grant keep s []) }
+    {
+        let live = LiveStation::new(alloc, name, want, grant, times)?;
+        Ok(ListedLive {
+            live,
+            lists: NewestEntries::new(alloc, keep),
+            last: None,
+        })
+    }
+
+    /// The station.
+    pub fn live(&self) -> &LiveStation
+        ensures { result.now ≡ self.now.live }
+    {
+        &self.live
+    }
+
+    /// The lists.
+    pub fn lists(&self) -> &NewestEntries
+        ensures { result.now ≡ self.now.lists }
+    {
+        &self.lists
+    }
+
+    /// The verdict of the newest order, once it ended.
+    pub fn last(&self) -> Option<Verdict>
+        ensures { result ≡ self.now.last }
+    {
+        self.last
+    }
+
+    /// Hears a frame; an entry that it lists is put into the lists, and a verdict is kept. `Full` and `OutOfMemory` leave all as it was.
+    #[tactic(auto, using(crate::proofs::LiveKeeping::stands_heard))]
+    pub fn hear(&mut self, alloc: Global, frame: &Frame, now: u64) -> Result<Told, HearError>
+        ensures heard { IfOk result (λ t. HearsOnBus frame.now now t self.old.live self.new.live) }
+        ensures verdict { IfOk result (λ t. self.new.last ≡ newer_verdict t.verdict self.old.last) }
+        ensures stands { OnOk result ((r : StationSettings) (grant keep : ℕ) (h : List AnyReading) → StandsLive r grant keep self.old h
+            → StandsLive r grant keep self.new (FrameRead frame.now ∷ h)) }
+        ensures full { IsErrOf result HearError.Full ↔ LacksRoomToHear frame.now self.old.live }
+        ensures only { IfErr result (λ e. (e ≡ HearError.Full) ⊎ (e ≡ HearError.OutOfMemory)) }
+        ensures err { OnErr result (self.new ≡ self.old) }
+    {
+        match self.live.hear(alloc, frame, now, &mut self.lists) {
+            Ok(told) => {
+                self.last = newer(told.verdict, self.last);
+                Ok(told)
+            }
+            Err(refusal) => Err(refusal),
+        }
+    }
+
+    /// Hears that so many frames were missed; a verdict is kept. `Full` and `OutOfMemory` leave all as it was.
+    #[tactic(auto, using(crate::proofs::LiveKeeping::stands_missed))]
+    pub fn missed(&mut self, alloc: Global, count: u32, now: u64) -> Result<Told, HearError>
+        ensures missed { IfOk result (λ t. MissesFrames count now t self.old.live self.new.live) }
+        ensures verdict { IfOk result (λ t. self.new.last ≡ newer_verdict t.verdict self.old.last) }
+        ensures stands { OnOk result ((r : StationSettings) (grant keep : ℕ) (h : List AnyReading) → StandsLive r grant keep self.old h
+            → StandsLive r grant keep self.new (GapRead count ∷ h)) }
+        ensures full { IsErrOf result HearError.Full ↔ (MOST ≤ self.old.live.queue.put) }
+        ensures only { IfErr result (λ e. (e ≡ HearError.Full) ⊎ (e ≡ HearError.OutOfMemory)) }
+        ensures err { OnErr result (self.new ≡ self.old) }
+    {
+        match self.live.missed(alloc, count, now, &mut self.lists) {
+            Ok(told) => {
+                self.last = newer(told.verdict, self.last);
+                Ok(told)
+            }
+            Err(refusal) => Err(refusal),
+        }
+    }
+
+    /// What goes at this time; a verdict is kept.
+    #[tactic(auto, using(crate::proofs::LiveKeeping::stands_pulled))]
+    pub fn pull(&mut self, now: u64) -> Pulled
+        ensures turn { DoesTurn (turn_at now self.old.live) now result self.old.live self.new.live }
+        ensures source { IsSentFromOwn result self.old.live.station }
+        ensures verdict { self.new.last ≡ newer_verdict (verdict_pulled result) self.old.last }
+        ensures stands { (r : StationSettings) (grant keep : ℕ) (h : List AnyReading) → StandsLive r grant keep self.old h
+            → StandsLive r grant keep self.new h }
+    {
+        let pulled = self.live.pull(now);
+        let verdict = verdict_of(&pulled);
+        self.last = newer(verdict, self.last);
+        pulled
+    }
+
+    /// Opens an order; the verdict of the one before is forgotten.
+    ///
+    /// Refused, in this order: `Open` while another one is open, `NotAnAddress` for a command to hold 254 or 255. Then nothing
+    /// changed.
+    pub fn order(&mut self, order: Order) -> Result<(), OrderError>
+        ensures ok { OnOk result (self.new ≡ with_order order self.old) }
+        ensures busy { IsErrOf result OrderError.Open ↔ IsSome self.old.live.order }
+        ensures not_an_address { IsErrOf result OrderError.NotAnAddress ↔ (IsNone self.old.live.order × commands_too_far order ≡ true) }
+        ensures err { OnErr result (self.new ≡ self.old) }
+    {
+        match self.live.order(order) {
+            Ok(()) => {
+                self.last = None;
+                Ok(())
+            }
+            Err(refusal) => Err(refusal),
+        }
+    }
+
+    /// The open order, if one is open, is cut off, and its verdict is kept.
+    pub fn end_order(&mut self, now: u64)
+        ensures { self.new ≡ with_order_ended now self.old }
+    {
+        let verdict = self.live.close(now);
+        self.last = newer(verdict, self.last);
+    }
+}
+
+/// Of two verdicts the newer one, if there is one.
+fn newer(verdict: Option<Verdict>, before: Option<Verdict>) -> Option<Verdict>
+    ensures { result ≡ newer_verdict verdict before }
+{
+    match verdict {
+        Some(verdict) => Some(verdict),
+        None => before,
+    }
+}
+
+/// The verdict that was pulled, if it was one.
+fn verdict_of(pulled: &Pulled) -> Option<Verdict>
+    ensures { result ≡ verdict_pulled pulled.now }
+{
+    match *pulled {
+        Pulled::Verdict(verdict) => Some(verdict),
+        _ => None,
+    }
+}

@@ -1,0 +1,248 @@
+"""A station that takes part in a bus, and carries out orders, over the library."""
+
+import ctypes
+import threading
+from typing import Any, Optional
+
+from ._library import ChangeRecord, FrameRecord, LiveRecord, LiveSettingsRecord, VerdictRecord, library
+from .records import Change, Doubt, Finding, Frame, Kind, Verdict
+from .station import KEEP_ALL, Known, Octets, Queries, at_address, change_of, done, frame_of, number_of, octets_of, said_by
+
+_NEVER = 2**64 - 1
+_OPEN = 1
+_GROUPS = {Kind.DM1: 65226, Kind.DM2: 65227, Kind.DM6: 65231}
+# the kind of the message that answers a request for a group; of a clear the one that shows what is left
+_KINDS = {65226: Kind.DM1, 65227: Kind.DM2, 65231: Kind.DM6, 65228: Kind.DM2, 65235: Kind.DM1}
+
+
+class LiveStation(Known):
+    """A diagnostic station for SAE J1939 that takes part in one bus: it hears the frames that are read of that bus, is asked for the frames that it
+    writes, and carries out one order at a time.
+
+    It claims its address, asks all for their claims once, answers what it is asked, and grants the packets of sessions. It writes no clear and no command without
+    its order. It has no clock: `now` is a time in microseconds of any clock that does not go back, as `time.monotonic_ns() // 1000`.
+
+    Each call may be made from any thread: a lock lets in one at a time. A refused call raises `Refused`, one that was refused memory
+    `MemoryError`, and has then changed nothing. A number that no C type of the library holds is a ValueError; what is no whole number, or no
+    bytes, is a TypeError that tells what was wanted.
+
+        with LiveStation(name=1, address=249) as station:
+            station.ask(0xA0, DM2)
+            while (frame := station.next(now=0)) is not None:
+                print(frame)
+    """
+
+    _calls = Queries(
+        library.hidzgula_live_held,
+        library.hidzgula_live_rows,
+        library.hidzgula_live_row,
+        library.hidzgula_live_counts,
+        library.hidzgula_live_entries,
+        library.hidzgula_live_entry,
+        library.hidzgula_live_code,
+    )
+
+    def __init__(
+        self, name: int, address: int, *, grant: int = 255, keep: Optional[int] = 16, gap: int = 50_000, settle: int = 250_000
+    ) -> None:
+        """Opens a station whose claim waits; it has heard nothing.
+
+        name: its NAME, 64 bits (SAE J1939-81).
+        address: which it holds, 0 to 253.
+        grant: how many packets it lets a sender send at once, 1 to 255 (SAE J1939-21).
+        keep: of each list the newest so many messages are kept, 0 to 2^32 - 1, and all are counted; None for all.
+        gap: microseconds at least from a frame of a command to the next, 10,000 to 200,000: 50 to 200 ms by SAE J1939-21, 10 to 200 ms by
+            ISO 11783-3 and later editions (from memory).
+        settle: microseconds from the claim of a new address to anything but a claim, up to 1,000,000 (SAE J1939-81: 250,000).
+
+        Raises Refused BAD_SETTING for an address above 253, a grant of 0 or a time out of its range, and MemoryError.
+        """
+        self._station = LiveRecord()
+        self._lock = threading.Lock()
+        self._change = ChangeRecord()
+        self._verdict: Optional[Verdict] = None
+        self._is_open = False
+        self._keep = number_of("keep", KEEP_ALL if keep is None else keep, KEEP_ALL)
+        self._name = name = number_of("name", name, 2**64 - 1)
+        settings = LiveSettingsRecord(
+            number_of("gap", gap, _NEVER, most_is_refused=True),
+            number_of("settle", settle, _NEVER, most_is_refused=True),
+            self._keep,
+            number_of("grant", grant, 255),
+        )
+        done(library.hidzgula_live_open(self._station, name, number_of("address", address, 255, most_is_refused=True), settings))
+        self._is_there = True
+
+    def close(self) -> None:
+        """Closes the station and frees its memory; every other call is then Refused, NO_STATION. Closing twice does nothing."""
+        with self._lock:
+            library.hidzgula_live_close(self._station)
+
+    def __enter__(self) -> "LiveStation":
+        return self
+
+    def __exit__(self, *_: object) -> None:
+        self.close()
+
+    def __del__(self) -> None:
+        if hasattr(self, "_is_there"):
+            library.hidzgula_live_close(self._station)
+
+    def __reduce__(self) -> Any:
+        raise TypeError("a station cannot be copied")
+
+    def __repr__(self) -> str:
+        """Its NAME, its address, and how many units it knows; or that it is closed, or in a call of another thread."""
+        return f"<hidzgula.{type(self).__name__} {self._name:016X}{said_by(self._lock, self._said)}>"
+
+    def _said(self) -> str:
+        rows, has, address = ctypes.c_size_t(), ctypes.c_uint8(), ctypes.c_uint8()
+        done(self._calls.held(self._station, has, address))
+        done(self._calls.rows(self._station, rows))
+        return f"{at_address(has, address)}, units {rows.value}{', an order is open' if self._is_open else ''}"
+
+    # ---- the bus
+
+    def hear(self, id: int, data: Octets, now: int) -> Change:
+        """Hears a frame that was read of the bus: its 29-bit identifier, and 0 to 8 bytes. Its own frames may be among them: they change nothing.
+
+        Frames with 11-bit identifiers, remote frames, error frames and frames of CAN FD are not handed over.
+
+        Raises Refused ID_TOO_LARGE, TOO_LONG, NO_STATION, QUEUE_FULL where as much waits as there is room for, and MemoryError: then the frame was
+        not heard, and may be handed over again.
+        """
+        id = number_of("id", id, 2**32 - 1, most_is_refused=True)
+        data = octets_of(data)
+        now = number_of("now", now, _NEVER)
+        with self._lock:
+            done(library.hidzgula_live_hear(self._station, id, data, len(data), now, self._change))
+            self._look()
+            return change_of(self._change)
+
+    def missed(self, count: int, now: int) -> Change:
+        """Tells the station that `count` frames of the bus were missed, 0 to 2^32 - 1: it forgets which NAME owns which address, and all messages that
+        are half read, until units claim again.
+
+        Raises Refused NO_STATION, QUEUE_FULL, and MemoryError.
+        """
+        count, now = number_of("count", count, 2**32 - 1), number_of("now", now, _NEVER)
+        with self._lock:
+            done(library.hidzgula_live_missed(self._station, count, now, self._change))
+            self._look()
+            return change_of(self._change)
+
+    def next(self, now: int) -> Optional[Frame]:
+        """The frame that goes now, to be written at once, since it counts as written; None where none does: then `when` says when to ask again, which may
+        be at once.
+
+        Raises Refused NO_STATION.
+        """
+        record, has = FrameRecord(), ctypes.c_uint8()
+        with self._lock:
+            done(library.hidzgula_live_next(self._station, number_of("now", now, _NEVER), record, has))
+            self._look()
+        return frame_of(record) if has.value else None
+
+    def when(self, now: int) -> Optional[int]:
+        """When to ask again, at `now` or later: before that nothing goes, unless a frame is heard or an order is given. None where nothing waits for its
+        time.
+
+        Raises Refused NO_STATION.
+        """
+        at = ctypes.c_uint64()
+        with self._lock:
+            done(library.hidzgula_live_when(self._station, number_of("now", now, _NEVER), at))
+        return at.value if at.value != _NEVER else None
+
+    # ---- orders
+
+    def ask(self, name: int, what: int) -> None:
+        """Asks the unit of a NAME for a message, DM1, DM2 or DM6, or for its claim, PGN_ADDRESS_CLAIMED. The order is open from now on.
+
+        Raises Refused NO_GROUP for any other group, NO_STATION, ORDER_OPEN.
+        """
+        self._order(library.hidzgula_live_ask, number_of("name", name, 2**64 - 1), _group_of(what))
+
+    def ask_all(self, what: int) -> None:
+        """Asks all units for it.
+
+        Raises Refused NO_GROUP, NO_STATION, ORDER_OPEN.
+        """
+        self._order(library.hidzgula_live_ask_all, _group_of(what))
+
+    def clear(self, name: int, pgn: int) -> None:
+        """Has the unit of a NAME clear, by PGN_DM3 its previously active codes, by PGN_DM11 its active ones, and asks it what is left.
+
+        Raises Refused NO_GROUP for any other group, NO_STATION, ORDER_OPEN.
+        """
+        pgn = number_of("pgn", pgn, 2**32 - 1, most_is_refused=True)
+        self._order(library.hidzgula_live_clear, number_of("name", name, 2**64 - 1), pgn)
+
+    def command(self, name: int, address: int) -> None:
+        """Commands the unit of a NAME to hold an address, 0 to 253.
+
+        Raises Refused NO_STATION, ORDER_OPEN, NOT_AN_ADDRESS.
+        """
+        address = number_of("address", address, 255, most_is_refused=True)
+        self._order(library.hidzgula_live_command, number_of("name", name, 2**64 - 1), address)
+
+    def end(self, now: int) -> None:
+        """Ends the open order, if one is open: it is cut off.
+
+        Raises Refused NO_STATION.
+        """
+        with self._lock:
+            done(library.hidzgula_live_end(self._station, number_of("now", now, _NEVER)))
+            self._look()
+
+    @property
+    def is_open(self) -> bool:
+        """Whether an order is open."""
+        return self._is_open
+
+    @property
+    def verdict(self) -> Optional[Verdict]:
+        """What came of the newest order; None while it is open, and where none was given."""
+        return self._verdict
+
+    def _order(self, call: Any, *words: int) -> None:
+        with self._lock:
+            done(call(self._station, *words))
+            self._verdict, self._is_open = None, True
+
+    def _look(self) -> None:
+        """Whether the open order ended; its verdict has the message of this moment."""
+        if not self._is_open:
+            return
+        record = VerdictRecord()
+        done(library.hidzgula_live_verdict(self._station, record))
+        if record.what != _OPEN:
+            self._verdict, self._is_open = self._verdict_of(record), False
+
+    def _verdict_of(self, record: VerdictRecord) -> Verdict:
+        finding, left = Finding(record.what), Finding(record.left) if record.left else None
+        message = None
+        if record.has_name and record.pgn in _KINDS and Finding.ANSWERED in (finding, left) and self._keep:
+            kind = _KINDS[record.pgn]
+            count = self._count(record.name, kind)
+            message = self._message(record.name, kind, count - 1) if count else None
+        return Verdict(
+            finding,
+            record.name if record.has_name else None,
+            record.pgn,
+            record.tries,
+            record.address if record.has_address else None,
+            record.after if record.has_after else None,
+            record.detail if finding == Finding.REFUSED else None,
+            Doubt(record.detail) if finding == Finding.IN_DOUBT else None,
+            bool(record.detail) if finding == Finding.CUT_OFF else None,
+            record.commanded if record.pgn == 65240 else None,
+            left,
+            message,
+        )
+
+
+def _group_of(what: int) -> int:
+    """The group of a kind of message, or the group that it is."""
+    what = number_of("what", what, 2**32 - 1, most_is_refused=True)
+    return next((group for kind, group in _GROUPS.items() if kind == what), what)

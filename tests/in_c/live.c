@@ -1,0 +1,392 @@
+/* A live station: what a C program may do wrong with it; and against a simulated unit in the same process, joined by a loop that hands in the time,
+ * what it writes, which verdict each order has, and what is listed then. Writes a line for each try that is otherwise, and then the sums. */
+#include "tries.h"
+
+static hidzgula_live live = HIDZGULA_EMPTY;
+static hidzgula_unit unit = HIDZGULA_EMPTY;
+static const uint8_t bytes[9] = { 0xA0, 0, 0, 0, 0, 0, 0, 0, 0 };
+static uint64_t now;
+
+enum { NAME = 0x1419907, UNKNOWN = 0xA0, SECOND = 1000000, OWN = 249 };
+static const uint64_t own_name = 0x10000000000000FA;
+
+/* everything that a call can write, filled with bytes that no call writes */
+static struct written {
+    hidzgula_change change;
+    hidzgula_frame frame;
+    hidzgula_verdict verdict;
+    hidzgula_row_out row;
+    hidzgula_entry_out entry;
+    hidzgula_code_out code;
+    size_t count;
+    uint64_t at, entries, missed, unread;
+    uint8_t has, address;
+} out, before;
+
+static void fill(void)
+{
+    memset(&out, 0xA5, sizeof out);
+    memcpy(&before, &out, sizeof out);
+}
+
+static void nothing_written(const char *what) { is(what, (unsigned long)memcmp(&out, &before, sizeof out), 0); }
+
+/* all calls on a station that is empty */
+static void on_empty(const char *when)
+{
+    fill();
+    is(when, hidzgula_live_hear(&live, 0x18EEFF00, bytes, 8, now, &out.change), HIDZGULA_NO_STATION);
+    is(when, hidzgula_live_missed(&live, 1, now, &out.change), HIDZGULA_NO_STATION);
+    is(when, hidzgula_live_next(&live, now, &out.frame, &out.has), HIDZGULA_NO_STATION);
+    is(when, hidzgula_live_when(&live, now, &out.at), HIDZGULA_NO_STATION);
+    is(when, hidzgula_live_ask(&live, NAME, HIDZGULA_PGN_DM1), HIDZGULA_NO_STATION);
+    is(when, hidzgula_live_ask_all(&live, HIDZGULA_PGN_DM1), HIDZGULA_NO_STATION);
+    is(when, hidzgula_live_clear(&live, NAME, HIDZGULA_PGN_DM3), HIDZGULA_NO_STATION);
+    is(when, hidzgula_live_command(&live, NAME, 254), HIDZGULA_NO_STATION);
+    is(when, hidzgula_live_end(&live, now), HIDZGULA_NO_STATION);
+    is(when, hidzgula_live_verdict(&live, &out.verdict), HIDZGULA_NO_STATION);
+    is(when, hidzgula_live_held(&live, &out.has, &out.address), HIDZGULA_NO_STATION);
+    is(when, hidzgula_live_counts(&live, &out.missed, &out.unread), HIDZGULA_NO_STATION);
+    is(when, hidzgula_live_rows(&live, &out.count), HIDZGULA_NO_STATION);
+    is(when, hidzgula_live_row(&live, 0, &out.row), HIDZGULA_NO_STATION);
+    is(when, hidzgula_live_entries(&live, NAME, HIDZGULA_DM1, &out.entries), HIDZGULA_NO_STATION);
+    is(when, hidzgula_live_entry(&live, NAME, HIDZGULA_DM2, 0, &out.entry), HIDZGULA_NO_STATION);
+    is(when, hidzgula_live_code(&live, NAME, HIDZGULA_DM6, 0, 0, &out.code), HIDZGULA_NO_STATION);
+    /* what is wrong with the arguments is told first */
+    is(when, hidzgula_live_hear(&live, 1u << 29, bytes, 9, now, &out.change), HIDZGULA_ID_TOO_LARGE);
+    is(when, hidzgula_live_hear(&live, 0, bytes, 9, now, &out.change), HIDZGULA_TOO_LONG);
+    is(when, hidzgula_live_ask(&live, NAME, HIDZGULA_PGN_DM3), HIDZGULA_NO_GROUP);
+    is(when, hidzgula_live_entries(&live, NAME, 3, &out.entries), HIDZGULA_NO_KIND);
+    nothing_written(when);
+    hidzgula_live_close(&live);
+    hidzgula_live_close(&live);
+}
+
+static void bad_settings(void)
+{
+    static const hidzgula_live_settings bad[] = { { 9999, 250000, 1, 255 }, { 200001, 250000, 1, 255 }, { UINT64_MAX, 0, 1, 1 },
+        { 50000, 1000001, 1, 255 }, { 50000, UINT64_MAX, 1, 1 }, { 50000, 250000, 1, 0 } };
+    static const hidzgula_live_settings usual = HIDZGULA_USUAL_LIVE_SETTINGS;
+    for (size_t i = 0; i < sizeof bad / sizeof bad[0]; i++) is("a bad setting", hidzgula_live_open(&live, own_name, OWN, &bad[i]), HIDZGULA_BAD_SETTING);
+    is("address 254", hidzgula_live_open(&live, own_name, 254, &usual), HIDZGULA_BAD_SETTING);
+    is("address 255", hidzgula_live_open(&live, own_name, 255, &usual), HIDZGULA_BAD_SETTING);
+}
+
+static void opened(uint8_t grant)
+{
+    const hidzgula_live_settings settings = { 50000, 250000, 16, grant };
+    is("open", hidzgula_live_open(&live, own_name, OWN, &settings), HIDZGULA_DONE);
+}
+
+static void refused_by_arguments(void)
+{
+    fill();
+    bad_settings();
+    is("opened twice", hidzgula_live_open(&live, own_name, 0, &(hidzgula_live_settings)HIDZGULA_USUAL_LIVE_SETTINGS), HIDZGULA_HAS_STATION);
+    is("identifier 2^29", hidzgula_live_hear(&live, 1u << 29, bytes, 8, now, &out.change), HIDZGULA_ID_TOO_LARGE);
+    is("nine bytes", hidzgula_live_hear(&live, (1u << 29) - 1, bytes, 9, now, &out.change), HIDZGULA_TOO_LONG);
+    static const uint32_t none[] = { 0, HIDZGULA_PGN_DM3, HIDZGULA_PGN_DM11, 65260, 65240, 1u << 24, UINT32_MAX };
+    for (size_t i = 0; i < sizeof none / sizeof none[0]; i++) {
+        is("a group that is not asked for", hidzgula_live_ask(&live, NAME, none[i]), HIDZGULA_NO_GROUP);
+        is("nor of all", hidzgula_live_ask_all(&live, none[i]), HIDZGULA_NO_GROUP);
+        if (none[i] != HIDZGULA_PGN_DM3 && none[i] != HIDZGULA_PGN_DM11)
+            is("nor clears", hidzgula_live_clear(&live, NAME, none[i]), HIDZGULA_NO_GROUP);
+    }
+    is("DM1 clears nothing", hidzgula_live_clear(&live, NAME, HIDZGULA_PGN_DM1), HIDZGULA_NO_GROUP);
+    is("to address 254", hidzgula_live_command(&live, NAME, 254), HIDZGULA_NOT_AN_ADDRESS);
+    is("to address 255", hidzgula_live_command(&live, NAME, 255), HIDZGULA_NOT_AN_ADDRESS);
+    is("row 0", hidzgula_live_row(&live, 0, &out.row), HIDZGULA_NO_PLACE);
+    is("entry 0", hidzgula_live_entry(&live, NAME, HIDZGULA_DM1, 0, &out.entry), HIDZGULA_NO_PLACE);
+    is("code 0", hidzgula_live_code(&live, NAME, HIDZGULA_DM1, 0, 0, &out.code), HIDZGULA_NO_PLACE);
+    is("kind 0", hidzgula_live_entry(&live, NAME, 0, 0, &out.entry), HIDZGULA_NO_KIND);
+    is("kind 255", hidzgula_live_code(&live, NAME, 255, 0, 0, &out.code), HIDZGULA_NO_KIND);
+    nothing_written("what was refused writes nothing");
+}
+
+static void told(const char *what, unsigned wanted)
+{
+    fill();
+    is(what, hidzgula_live_verdict(&live, &out.verdict), HIDZGULA_DONE);
+    is(what, out.verdict.what, wanted);
+}
+
+/* ---- a bus in this process: each hears all that is written, its own frames too */
+
+static char written[1 << 16]; /* what was written since it was looked at, as 18EEFFF9#.. in lines */
+static uint32_t lost_id; /* one frame of this identifier is lost */
+static bool unit_is_deaf;
+
+static void heard_by_station(const hidzgula_frame *frame)
+{
+    is("the station hears", hidzgula_live_hear(&live, frame->id, frame->bytes, frame->length, now, &out.change), HIDZGULA_DONE);
+}
+
+static void carry(const hidzgula_frame *frame)
+{
+    size_t at = strlen(written);
+    at += (size_t)snprintf(written + at, sizeof written - at, "%08X#", frame->id);
+    for (int i = 0; i < frame->length; i++) at += (size_t)snprintf(written + at, sizeof written - at, "%02X", frame->bytes[i]);
+    snprintf(written + at, sizeof written - at, "\n");
+    if (frame->id == lost_id) {
+        lost_id = 0;
+        return;
+    }
+    heard_by_station(frame);
+    if (unit.at && !unit_is_deaf) is("the unit hears", hidzgula_unit_hear(&unit, frame->id, frame->bytes, frame->length, now), HIDZGULA_DONE);
+}
+
+/* all that goes up to a time */
+static void run(uint64_t until)
+{
+    for (;;) {
+        hidzgula_frame frame;
+        uint8_t has = 0;
+        uint64_t at = UINT64_MAX, other = UINT64_MAX;
+        while (hidzgula_live_next(&live, now, &frame, &has) == HIDZGULA_DONE && has) carry(&frame);
+        while (unit.at && hidzgula_unit_next(&unit, now, &frame, &has) == HIDZGULA_DONE && has) carry(&frame);
+        is("when", hidzgula_live_when(&live, now, &at), HIDZGULA_DONE);
+        if (unit.at) hidzgula_unit_when(&unit, now, &other);
+        if (other < at) at = other;
+        if (at >= until) break;
+        now = at;
+    }
+    now = until;
+}
+
+static void seconds(unsigned count) { run(now + (uint64_t)count * SECOND); }
+
+static bool went(const char *text) { return strstr(written, text) != NULL; }
+
+/* the unit of this bus: NAME at 0, with so many codes that were active once */
+static void unit_with(unsigned codes, uint8_t guarded)
+{
+    const hidzgula_unit_settings settings = { 50000, 250000, 0, guarded };
+    is("a unit", hidzgula_unit_open(&unit, NAME, 0, &settings), HIDZGULA_DONE);
+    for (unsigned i = 0; i < codes; i++) {
+        is("a fault", hidzgula_unit_set(&unit, 100 + i, 3), HIDZGULA_DONE);
+        is("is healed", hidzgula_unit_heal(&unit, 100 + i, 3), HIDZGULA_DONE);
+    }
+}
+
+static void begun(uint8_t grant, unsigned codes, uint8_t guarded)
+{
+    unit_with(codes, guarded);
+    opened(grant);
+    written[0] = 0;
+    seconds(2);
+}
+
+static void ended(void)
+{
+    hidzgula_live_close(&live);
+    hidzgula_unit_close(&unit);
+    unit_is_deaf = false;
+}
+
+/* the newest message of a kind of the unit has so many codes */
+static void newest_has(const char *what, uint8_t kind, unsigned long codes)
+{
+    is(what, hidzgula_live_entries(&live, NAME, kind, &out.entries), HIDZGULA_DONE);
+    is(what, hidzgula_live_entry(&live, NAME, kind, out.entries - 1, &out.entry), HIDZGULA_DONE);
+    is(what, out.entry.codes, codes);
+}
+
+/* it claims, settles, asks all for their claims, and knows who is there */
+static void claims(void)
+{
+    begun(255, 0, 0);
+    is("its claim goes first", (unsigned long)strncmp(written, "18EEFFF9#FA00000000000010\n", 26), 0);
+    is("it asks for claims", went("18EAFFF9#00EE00\n"), 1);
+    is("it holds", hidzgula_live_held(&live, &out.has, &out.address), HIDZGULA_DONE);
+    is("its address", out.has * 256u + out.address, 256 + OWN);
+    is("rows", hidzgula_live_rows(&live, &out.count), HIDZGULA_DONE);
+    is("it lists no row of its own", out.count, 1);
+    is("row 0", hidzgula_live_row(&live, 0, &out.row), HIDZGULA_DONE);
+    is("its NAME", out.row.name, NAME);
+    is("its address", out.row.has_address * 256u + out.row.address, 256);
+    told("no order", HIDZGULA_NO_ORDER);
+    ended();
+}
+
+/* asked for its DM2 of 40 codes it opens a session, whose packets the station grants */
+static void asks(uint8_t grant)
+{
+    begun(grant, 40, 0);
+    is("asks", hidzgula_live_ask(&live, NAME, HIDZGULA_PGN_DM2), HIDZGULA_DONE);
+    told("it is open", HIDZGULA_OPEN);
+    is("its unit", out.verdict.name, NAME);
+    is("its group", out.verdict.pgn, HIDZGULA_PGN_DM2);
+    is("asks beside it", hidzgula_live_ask(&live, NAME, HIDZGULA_PGN_DM1), HIDZGULA_ORDER_OPEN);
+    is("asks all beside it", hidzgula_live_ask_all(&live, HIDZGULA_PGN_DM1), HIDZGULA_ORDER_OPEN);
+    is("clears beside it", hidzgula_live_clear(&live, NAME, HIDZGULA_PGN_DM3), HIDZGULA_ORDER_OPEN);
+    is("commands beside it", hidzgula_live_command(&live, NAME, 255), HIDZGULA_ORDER_OPEN);
+    seconds(5);
+    is("its request", went("18EA00F9#CBFE00\n"), 1);
+    is("a request to send of 162 bytes in 24 packets", went("1CECF900#10A20018"), 1);
+    is("the last packet", went("1CEBF900#18"), 1);
+    told("it is answered", HIDZGULA_ANSWERED);
+    is("by one try", out.verdict.tries, 1);
+    is("of one unit", out.verdict.has_name, 1);
+    is("at its address", out.verdict.has_address * 256u + out.verdict.address, 256);
+    is("a while ago", out.verdict.has_after, 1);
+    is("nothing is left of it", out.verdict.left, 0);
+    newest_has("40 codes", HIDZGULA_DM2, 40);
+    is("the last code", hidzgula_live_code(&live, NAME, HIDZGULA_DM2, out.entries - 1, 39, &out.code), HIDZGULA_DONE);
+    is("its SPN", out.code.spn, 139);
+    is("code 40", hidzgula_live_code(&live, NAME, HIDZGULA_DM2, out.entries - 1, 40, &out.code), HIDZGULA_NO_PLACE);
+    is("asks all for DM1", hidzgula_live_ask_all(&live, HIDZGULA_PGN_DM1), HIDZGULA_DONE);
+    seconds(3);
+    told("it is answered too", HIDZGULA_ANSWERED);
+    is("for no unit alone", out.verdict.has_name, 0);
+    is("to no address alone", out.verdict.has_address, 0);
+    ended();
+}
+
+/* a clear is acknowledged, and what is left is asked: nothing */
+static void clears(void)
+{
+    begun(16, 40, 0);
+    is("clears", hidzgula_live_clear(&live, NAME, HIDZGULA_PGN_DM3), HIDZGULA_DONE);
+    seconds(5);
+    is("its request", went("18EA00F9#CCFE00\n"), 1);
+    told("it is done", HIDZGULA_POSITIVE);
+    is("of the group", out.verdict.pgn, HIDZGULA_PGN_DM3);
+    is("what is left is told", out.verdict.left, HIDZGULA_ANSWERED);
+    newest_has("no code is left", HIDZGULA_DM2, 0);
+    is("a fault", hidzgula_unit_set(&unit, 110, 0), HIDZGULA_DONE);
+    is("clears", hidzgula_live_clear(&live, NAME, HIDZGULA_PGN_DM11), HIDZGULA_DONE);
+    seconds(5);
+    told("that is done too", HIDZGULA_POSITIVE);
+    is("and what is left", out.verdict.left, HIDZGULA_ANSWERED);
+    newest_has("no code is left", HIDZGULA_DM1, 0);
+    ended();
+}
+
+/* a guarded unit refuses */
+static void is_refused(void)
+{
+    begun(16, 1, 1);
+    is("clears", hidzgula_live_clear(&live, NAME, HIDZGULA_PGN_DM11), HIDZGULA_DONE);
+    seconds(5);
+    told("it is refused", HIDZGULA_REFUSED);
+    is("negative, or by access", out.verdict.detail == 1 || out.verdict.detail == 2, 1);
+    is("and nothing is asked behind it", out.verdict.left, 0);
+    is("commands", hidzgula_live_command(&live, NAME, 9), HIDZGULA_DONE);
+    seconds(5);
+    told("it does not obey", HIDZGULA_SILENT);
+    is("the address", out.verdict.commanded, 9);
+    ended();
+}
+
+static void commands(void)
+{
+    begun(255, 0, 0);
+    written[0] = 0;
+    is("commands", hidzgula_live_command(&live, NAME, 9), HIDZGULA_DONE);
+    seconds(2);
+    is("in three frames", went("1CECFFF9#20090002FFD8FE00\n"), 1);
+    told("it obeys", HIDZGULA_OBEYED);
+    is("its group", out.verdict.pgn, 65240);
+    is("row 0", hidzgula_live_row(&live, 0, &out.row), HIDZGULA_DONE);
+    is("its address", out.row.has_address * 256u + out.row.address, 256 + 9);
+    ended();
+}
+
+/* nobody is there, or does not answer any more, or a frame is lost */
+static void is_not_answered(void)
+{
+    begun(255, 40, 0);
+    is("asks nobody", hidzgula_live_ask(&live, UNKNOWN, HIDZGULA_PGN_DM1), HIDZGULA_DONE);
+    seconds(5);
+    told("nobody", HIDZGULA_NO_SUCH_UNIT);
+    is("it was not written", out.verdict.tries + out.verdict.has_after, 0);
+    unit_is_deaf = true;
+    written[0] = 0;
+    is("asks", hidzgula_live_ask(&live, NAME, HIDZGULA_PGN_DM1), HIDZGULA_DONE);
+    seconds(5);
+    told("silent", HIDZGULA_SILENT);
+    is("three times", out.verdict.tries, 3);
+    unit_is_deaf = false;
+    is("asks", hidzgula_live_ask(&live, NAME, HIDZGULA_PGN_DM2), HIDZGULA_DONE);
+    lost_id = 0x1CEBF900;
+    seconds(30);
+    told("a packet was lost, and it was asked again", HIDZGULA_ANSWERED);
+    is("twice", out.verdict.tries, 2);
+    newest_has("40 codes", HIDZGULA_DM2, 40);
+    is("asks", hidzgula_live_ask(&live, NAME, HIDZGULA_PGN_DM1), HIDZGULA_DONE);
+    is("ends", hidzgula_live_end(&live, now), HIDZGULA_DONE);
+    told("cut off", HIDZGULA_CUT_OFF);
+    is("before it was written", out.verdict.detail, 0);
+    is("ends nothing", hidzgula_live_end(&live, now), HIDZGULA_DONE);
+    told("cut off", HIDZGULA_CUT_OFF);
+    ended();
+}
+
+/* after a clear was written, frames are missed, or somebody else has the station's address: nobody knows whether it was done */
+static void doubts(void)
+{
+    begun(255, 3, 0);
+    unit_is_deaf = true;
+    is("clears", hidzgula_live_clear(&live, NAME, HIDZGULA_PGN_DM3), HIDZGULA_DONE);
+    run(now + 100000);
+    is("misses frames", hidzgula_live_missed(&live, 5, now, &out.change), HIDZGULA_DONE);
+    is("how many", out.change.what * 256u + out.change.count, HIDZGULA_MISSED * 256 + 5);
+    unit_is_deaf = false;
+    seconds(8);
+    told("nobody knows", HIDZGULA_IN_DOUBT);
+    is("why", out.verdict.detail, HIDZGULA_DOUBT_MISSED);
+    is("what is left is told", out.verdict.left, HIDZGULA_ANSWERED);
+    newest_has("all codes are left", HIDZGULA_DM2, 3);
+    is("counts", hidzgula_live_counts(&live, &out.missed, &out.unread), HIDZGULA_DONE);
+    is("counts", out.missed * 256 + out.unread, 5 * 256);
+    static const uint8_t dm1[8] = { 0, 0xFF, 0, 0, 0, 0, 0xFF, 0xFF };
+    is("a frame of its address", hidzgula_live_hear(&live, 0x18FECAF9, dm1, 8, now, &out.change), HIDZGULA_DONE);
+    is("is a stranger's", out.change.what, HIDZGULA_STRANGER);
+    is("and tells nothing more", out.change.name + out.change.address + out.change.kind, 0);
+    ended();
+}
+
+/* as much waits as there is room for: a request is refused then, and nothing is written; once frames went, it is heard */
+static void is_full(void)
+{
+    static const uint8_t request[3] = { 0x01, 0x02, 0x03 };
+    unsigned taken = 0;
+    opened(255);
+    run(now + SECOND);
+    while (taken < 1000 && hidzgula_live_hear(&live, 0x18EAF900, request, 3, now, &out.change) == HIDZGULA_DONE) taken++;
+    fill();
+    is("full", hidzgula_live_hear(&live, 0x18EAF900, request, 3, now, &out.change), HIDZGULA_QUEUE_FULL);
+    nothing_written("full");
+    is("as many as there is room for", taken, 64);
+    run(now + SECOND);
+    is("it is heard", hidzgula_live_hear(&live, 0x18EAF900, request, 3, now, &out.change), HIDZGULA_DONE);
+    ended();
+}
+
+int main(void)
+{
+    on_empty("empty");
+    live.full = true; /* no program writes there; a station is where the pointer is not NULL, whatever stands beside it */
+    on_empty("a flag alone");
+    memset(&live, 0xFF, sizeof live);
+    live.at = NULL;
+    on_empty("no pointer");
+    bad_settings();
+    on_empty("refused");
+    opened(255);
+    refused_by_arguments();
+    hidzgula_live_close(&live);
+    on_empty("closed");
+    claims();
+    asks(255);
+    asks(16);
+    asks(1);
+    clears();
+    is_refused();
+    commands();
+    is_not_answered();
+    doubts();
+    is_full();
+    on_empty("closed");
+    return sums();
+}

@@ -1,5 +1,5 @@
 -- Lines that were answered, one after another.
-use Rattle.std.proofs.Common.{◌≡◌, ℕ, ◌∙◌, true, List, [], ◌∷◌, ◌++◌, Option, Some, None, Ok, Err, IfSome, IsNone, IsSome, IsOk, IsErr, OnOk, MatchOption, Result, inl, inr, refl, sym, ap, subst, append-nil, append_assoc, option_map, true≢false}
+use Rattle.std.proofs.Common.{◌≡◌, ℕ, ◌∙◌, List, [], ◌∷◌, ◌++◌, Option, Some, None, Ok, Err, IfSome, IsNone, IsSome, IsOk, IsErr, OnOk, MatchOption, Result, inl, inr, refl, sym, ap, subst, append-nil, append_assoc, option_map, true≢false}
 use Rattle.std.specs.Borrow.{GName}
 use Rattle.std.specs.Io.KnownBytes.{Appends}
 use Rattle.std.proofs.KnownBytes.{Appends-nil, Appends-trans}

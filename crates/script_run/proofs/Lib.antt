@@ -4,3 +4,4 @@ mod Searching
 mod Stations
 mod Stepping
 mod AtBench
+mod Refusing

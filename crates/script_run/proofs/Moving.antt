@@ -24,9 +24,9 @@ use Rattle.script_line.specs.declared.command.CodeChange.{CodeChange}
 use Rattle.script_line.specs.declared.command.Command.{Command}
 use Rattle.script_line.specs.declared.command.Command.TheVariants as command
 use Rattle.script_run.specs.Commands.{ActsBy, Does, IsNotThere, Joins, Leaves}
-use Rattle.script_run.specs.Moves.{HeardBy, IsNoUnit, TellsHearing, Moves, MovesBy, MovesByBeginning, MovesByHearing, MovesByJoining, MovesByLeaving, MovesByRounds, StaysByChanging, StaysByUnit}
+use Rattle.script_run.specs.Moves.{HeardBy, IsNoUnit, TellsHearing, Moves, MovesByBeginning, MovesByHearing, MovesByJoining, MovesByLeaving, MovesByRounds, MovesByTurning, StaysByChanging, StaysByUnit}
 use Rattle.script_run.specs.Steps.{RunsRounds}
-use Rattle.script_run.specs.UnitSteps.{BeginsSo, ChangesSo, HearsSo, LightsSo, TurnsSo, UnitDoes}
+use Rattle.script_run.specs.UnitSteps.{BeginsNone, BeginsSo, ChangesSo, HearsSo, LightsSo, TurnsSo, UnitDoes}
 
 lead_none : (P : Event → Type 0) (g h : GarageValue) → h ≡ g → LeadTo P [] g h
 unfolding LeadTo
@@ -182,7 +182,7 @@ module _ {P : Type 0} (sitting : P → Sitting) (asked : P → P → Option Ques
   by_beginning k (Ok (answer.Stats m u)) g p g' p' its h = h
   by_beginning k (Ok (answer.Injected n)) g p g' p' its h = h
   by_beginning k (Ok (answer.Frame f)) g p g' p' its h = h
-  by_beginning k (Err (refusal.Garage e)) g p g' p' its h = h.0
+  by_beginning k (Err (refusal.Garage e)) g p g' p' its h = (inr (subst (λ j. BeginsNone j g e) its h.0), h.1)
   by_beginning k (Err refusal.BadLine) g p g' p' its h = absurd h
   by_beginning k (Err refusal.NoSeat) g p g' p' its h = absurd h
   by_beginning k (Err (refusal.Name e)) g p g' p' its h = absurd h
@@ -190,9 +190,9 @@ module _ {P : Type 0} (sitting : P → Sitting) (asked : P → P → Option Ques
   by_beginning k (Err (refusal.Frame e)) g p g' p' its h = absurd h
   by_beginning k (Err (refusal.Fault e)) g p g' p' its h = absurd h
 
-  by_turning : (k : ℕ) (r : Result LineAnswer Refusal) (g : GarageValue) (p : P) (g' : GarageValue) (p' : P) → (sitting p).seat ≡ k → TurnsSo sitting r g p g' p' → MovesBy (event.Turned k) r g g'
+  by_turning : (k : ℕ) (r : Result LineAnswer Refusal) (g : GarageValue) (p : P) (g' : GarageValue) (p' : P) → (sitting p).seat ≡ k → TurnsSo sitting r g p g' p' → MovesByTurning k r g g'
   by_turning k (Ok a) g p g' p' its h = (h.0, subst (λ j. Adds g (event.Turned j) g') its h.1)
-  by_turning k (Err (refusal.Garage e)) g p g' p' its h = h.0
+  by_turning k (Err (refusal.Garage e)) g p g' p' its h = (inr h.0, h.1)
   by_turning k (Err refusal.BadLine) g p g' p' its h = absurd h
   by_turning k (Err refusal.NoSeat) g p g' p' its h = absurd h
   by_turning k (Err (refusal.Name e)) g p g' p' its h = absurd h
@@ -241,13 +241,25 @@ module _ {P : Type 0} (sitting : P → Sitting) (asked : P → P → Option Ques
   by_joining name address (Ok (answer.Stats m u)) g us g' us' h = h
   by_joining name address (Ok (answer.Injected n)) g us g' us' h = h
   by_joining name address (Ok (answer.Frame f)) g us g' us' h = h
-  by_joining name address (Err (refusal.Garage e)) g us g' us' h = h.0
+  by_joining name address (Err (refusal.Garage e)) g us g' us' h = (h.0, h.1)
   by_joining name address (Err refusal.BadLine) g us g' us' h = absurd h
   by_joining name address (Err refusal.NoSeat) g us g' us' h = absurd h
   by_joining name address (Err (refusal.Name e)) g us g' us' h = absurd h
   by_joining name address (Err (refusal.Pgn e)) g us g' us' h = absurd h
   by_joining name address (Err (refusal.Frame e)) g us g' us' h = absurd h
   by_joining name address (Err (refusal.Fault e)) g us g' us' h = absurd h
+
+  none_began : (k : ℕ) (e : Refusal) (g g' : GarageValue) → IsNoUnit e → g' ≡ g → MovesByBeginning k (Err e) g g'
+  none_began k e g g' none same = ⊎_elim
+      (λ is. subst (λ x. MovesByBeginning k (Err x) g g') (sym is) (refl, same))
+      (λ is. subst (λ x. MovesByBeginning k (Err x) g g') (sym is) (inl refl, same))
+      none
+
+  none_turned : (k : ℕ) (e : Refusal) (g g' : GarageValue) → IsNoUnit e → g' ≡ g → MovesByTurning k (Err e) g g'
+  none_turned k e g g' none same = ⊎_elim
+      (λ is. subst (λ x. MovesByTurning k (Err x) g g') (sym is) (refl, same))
+      (λ is. subst (λ x. MovesByTurning k (Err x) g g') (sym is) (inl refl, same))
+      none
 
   -- what one unit did, or that there is none, by what it leaves of the garage
   by_one : (k : ℕ) (c : Command) (Q : Result LineAnswer Refusal → Type 0) (r : Result LineAnswer Refusal) (g : GarageValue) (us : List P) (g' : GarageValue) (us' : List P)
@@ -266,9 +278,9 @@ module _ {P : Type 0} (sitting : P → Sitting) (asked : P → P → Option Ques
   moves y (command.Hear k most) r g us g' us' h = by_one k (command.Hear k most) (λ x. MovesByHearing k most x g g') r g us g' us'
       (λ p p' its d. by_hearing k most r g p g' p' its d) (λ e is same none. subst (λ x. MovesByHearing k most x g g') (sym is) (inl (none, same))) h
   moves y (command.Dm1 k) r g us g' us' h = by_one k (command.Dm1 k) (λ x. MovesByBeginning k x g g') r g us g' us'
-      (λ p p' its d. by_beginning k r g p g' p' its d) (λ e is same none. subst (λ x. MovesByBeginning k x g g') (sym is) same) h
-  moves y (command.Turn k) r g us g' us' h = by_one k (command.Turn k) (λ x. MovesBy (event.Turned k) x g g') r g us g' us'
-      (λ p p' its d. by_turning k r g p g' p' its d) (λ e is same none. subst (λ x. MovesBy (event.Turned k) x g g') (sym is) same) h
+      (λ p p' its d. by_beginning k r g p g' p' its d) (λ e is same none. subst (λ x. MovesByBeginning k x g g') (sym is) (none_began k e g g' none same)) h
+  moves y (command.Turn k) r g us g' us' h = by_one k (command.Turn k) (λ x. MovesByTurning k x g g') r g us g' us'
+      (λ p p' its d. by_turning k r g p g' p' its d) (λ e is same none. subst (λ x. MovesByTurning k x g g') (sym is) (none_turned k e g g' none same)) h
   moves y (command.Leave k) r g us g' us' h = by_leaving k r g us g' us' h
   moves y (command.Change k c spn fmi count) r g us g' us' h = by_one k (command.Change k c spn fmi count) (λ x. StaysByChanging x g g') r g us g' us'
       (λ p p' its d. by_changing c spn fmi count r g p g' p' d.0 d.1) (λ e is same none. subst (λ x. StaysByChanging x g g') (sym is) (none_changed e g g' none same)) h

@@ -1,12 +1,15 @@
 -- What each command of a script does that changes something, at the bench: the garage, and the units in the order of their seats.
-use Rattle.std.specs.Prelude.{◌≡◌, ◌⊎◌, ℕ, List, [], ◌∷◌, ◌++◌, Option, Some, IfSome, Result, Ok, Err, slice_get, slice_set}
+use Rattle.std.specs.Prelude.{◌≡◌, ◌⊎◌, ℕ, ◌<◌, ◌≤◌, List, [], ◌∷◌, ◌++◌, Option, Some, IfSome, Result, Ok, Err, slice_get, slice_set}
 use Rattle.std.specs.List.{remove}
+use Rattle.can_frame.specs.declared.address.TheConstants.{GREATEST_ADDRESS}
 use Rattle.unit_trait.specs.declared.question.Question.{Question}
 use Rattle.node_core.specs.declared.heard.Answer.{Answer as UnitAnswer}
 use Rattle.journal.specs.Journal.{Adds, GarageValue}
 use Rattle.journal.specs.declared.event.Event.TheVariants.{Join, Leave}
+use Rattle.garage.specs.Calls.{HasNameInUse, HasNoRoomFor, HasTooMany}
 use Rattle.garage.specs.Crew.{Sitting}
-use Rattle.garage.specs.declared.error.GarageError.TheVariants.{Stranger}
+use Rattle.garage.specs.declared.error.GarageError.{GarageError}
+use Rattle.garage.specs.declared.error.GarageError.TheVariants.{BookFull, NameInUse, NotAnAddress, OutOfMemory, Stranger, TooManySeats}
 use Rattle.script_answer.specs.declared.answer.LineAnswer.{LineAnswer}
 use Rattle.script_answer.specs.declared.answer.LineAnswer.TheVariants as answer
 use Rattle.script_answer.specs.declared.refusal.Refusal.{Refusal}
@@ -53,12 +56,19 @@ abbrev pub Leaves : {P : Type 0} → (P → Sitting) → ℕ → BenchStep P
 Leaves sitting k r g us g' us' =
     ((r ≡ Ok answer.Done) × Adds g (Leave k) g' × IsTaken sitting k us us') ⊎ IsNotThere sitting k r g us g' us'
 
--- a unit of this NAME, which wants this address, joined and stands behind all others; or it was refused, and nothing changed
+-- why no unit of this NAME joins at this address: that can be held by none; a live seat has the NAME; 64 units are live; the journal has no
+-- room; or there is no memory
+abbrev pub JoinsNone : ℕ → ℕ → GarageValue → GarageError → Type 0
+JoinsNone name address g e = ((e ≡ NotAnAddress) × (GREATEST_ADDRESS < address)) ⊎ ((e ≡ NameInUse) × (address ≤ GREATEST_ADDRESS) × HasNameInUse g name)
+    ⊎ ((e ≡ TooManySeats) × (address ≤ GREATEST_ADDRESS) × HasTooMany g name) ⊎ ((e ≡ BookFull) × (address ≤ GREATEST_ADDRESS) × HasNoRoomFor g name)
+    ⊎ (e ≡ OutOfMemory)
+
+-- a unit of this NAME, which wants this address, joined and stands behind all others; or it was refused for such a reason, and nothing changed
 abbrev pub Joins : {P : Type 0} → (P → Sitting) → ℕ → ℕ → BenchStep P
 Joins {P} sitting name address (Ok (answer.Seat k)) g us g' us' =
     Adds g (Join k name address) g' × ((p : P) × (us' ≡ us ++ p ∷ []) × ((sitting p).seat ≡ k) × ((sitting p).name ≡ name))
 Joins sitting name address (Ok a) g us g' us' = ⊥
-Joins sitting name address (Err (Garage e)) g us g' us' = (g' ≡ g) × (us' ≡ us)
+Joins sitting name address (Err (Garage e)) g us g' us' = JoinsNone name address g e × (g' ≡ g) × (us' ≡ us)
 Joins sitting name address (Err r) g us g' us' = ⊥
 
 -- the unit that the command is of did so

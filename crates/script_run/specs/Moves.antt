@@ -18,7 +18,9 @@ use Rattle.script_answer.specs.declared.refusal.Refusal.{Refusal}
 use Rattle.script_answer.specs.declared.refusal.Refusal.TheVariants.{Fault, Garage, NoSeat}
 use Rattle.script_line.specs.declared.command.Command.{Command}
 use Rattle.script_line.specs.declared.command.Command.TheVariants as command
+use Rattle.script_run.specs.Commands.{JoinsNone}
 use Rattle.script_run.specs.Steps.{Asks, CarriesSo, Commands, EndsTold, Injects, ReadsSo}
+use Rattle.script_run.specs.UnitSteps.{BeginsNone}
 
 -- an event that tells of a frame that the unit of this seat heard
 abbrev pub TellsHearing : ℕ → Event → Type 0
@@ -46,17 +48,19 @@ MovesByRounds most (Ok a) g g' = ⊥
 MovesByRounds most (Err (Garage e)) g g' = Comes g g'
 MovesByRounds most (Err r) g g' = ⊥
 
--- a DM1 of the unit of this seat began, or one is under way; refused, nothing changed
+-- a DM1 of the unit of this seat began, or one is under way; or there is no such unit; or it was refused for such a reason. Refused, nothing changed
 abbrev pub MovesByBeginning : ℕ → Result LineAnswer Refusal → GarageValue → GarageValue → Type 0
 MovesByBeginning k (Ok answer.Begun) g g' = (memory : MemoryValue) × Begins g k memory begin.Begun g'
 MovesByBeginning k (Ok answer.Held) g g' = (memory : MemoryValue) × Begins g k memory begin.Held g'
 MovesByBeginning k (Ok a) g g' = ⊥
-MovesByBeginning k (Err r) g g' = g' ≡ g
+MovesByBeginning k (Err (Garage e)) g g' = ((e ≡ Stranger) ⊎ BeginsNone k g e) × (g' ≡ g)
+MovesByBeginning k (Err r) g g' = (r ≡ NoSeat) × (g' ≡ g)
 
--- this event was added, which is answered by `ok`; refused, nothing changed
-abbrev pub MovesBy : Event → Result LineAnswer Refusal → GarageValue → GarageValue → Type 0
-MovesBy e (Ok a) g g' = (a ≡ answer.Done) × Adds g e g'
-MovesBy e (Err r) g g' = g' ≡ g
+-- its turn ended, which is answered by `ok`; or there is no such unit; or the journal has no room, or there is no memory. Refused, nothing changed
+abbrev pub MovesByTurning : ℕ → Result LineAnswer Refusal → GarageValue → GarageValue → Type 0
+MovesByTurning k (Ok a) g g' = (a ≡ answer.Done) × Adds g (Turned k) g'
+MovesByTurning k (Err (Garage e)) g g' = ((e ≡ Stranger) ⊎ IsNoMemoryOrFullAt g e) × (g' ≡ g)
+MovesByTurning k (Err r) g g' = (r ≡ NoSeat) × (g' ≡ g)
 
 -- a unit left, which is answered by `ok`; or there is no such unit
 abbrev pub MovesByLeaving : ℕ → Result LineAnswer Refusal → GarageValue → GarageValue → Type 0
@@ -74,11 +78,12 @@ abbrev pub StaysByUnit : Result LineAnswer Refusal → GarageValue → GarageVal
 StaysByUnit (Ok a) g g' = (a ≡ answer.Done) × (g' ≡ g)
 StaysByUnit (Err r) g g' = IsNoUnit r × (g' ≡ g)
 
--- a unit of this NAME, which wants this address, joined; refused, nothing changed
+-- a unit of this NAME, which wants this address, joined; or it was refused for such a reason, and nothing changed
 abbrev pub MovesByJoining : ℕ → ℕ → Result LineAnswer Refusal → GarageValue → GarageValue → Type 0
 MovesByJoining name address (Ok (answer.Seat k)) g g' = Adds g (Join k name address) g'
 MovesByJoining name address (Ok a) g g' = ⊥
-MovesByJoining name address (Err r) g g' = g' ≡ g
+MovesByJoining name address (Err (Garage e)) g g' = JoinsNone name address g e × (g' ≡ g)
+MovesByJoining name address (Err r) g g' = ⊥
 
 -- what a command leaves, of the station with this number where it is a station's; any other leaves the garage as it was
 abbrev pub Moves : ℕ → Command → Result LineAnswer Refusal → GarageValue → GarageValue → Type 0
@@ -90,7 +95,7 @@ Moves y (command.Command name address) r g g' = Commands y name address r g g'
 Moves y (command.Inject frame) r g g' = Injects frame r g g'
 Moves y (command.Hear k most) r g g' = MovesByHearing k most r g g'
 Moves y (command.Dm1 k) r g g' = MovesByBeginning k r g g'
-Moves y (command.Turn k) r g g' = MovesBy (Turned k) r g g'
+Moves y (command.Turn k) r g g' = MovesByTurning k r g g'
 Moves y (command.Leave k) r g g' = MovesByLeaving k r g g'
 Moves y (command.Change k c spn fmi count) r g g' = StaysByChanging r g g'
 Moves y (command.Lamps k lamps) r g g' = StaysByUnit r g g'

@@ -1,5 +1,5 @@
 -- What a command for one unit does: of the unit and the garage, where it stands among the units of the bench.
-use Rattle.std.specs.Prelude.{◌≡◌, ◌⊎◌, ℕ, suc, zero, ◌+◌, ◌-◌, ◌^◌, ◌<◌, ◌≤◌, min, Option, Result, Ok, Err}
+use Rattle.std.specs.Prelude.{◌≡◌, ◌⊎◌, ℕ, suc, zero, ◌+◌, ◌-◌, ◌^◌, ◌<◌, ◌≤◌, min, Option, IsNone, IsSome, false, Result, Ok, Err}
 use Rattle.unit_trait.specs.declared.question.Question.{Question}
 use Rattle.node_core.specs.declared.heard.Answer.{Answer as UnitAnswer}
 use Rattle.fault_memory.specs.Changes.{changed, Grows}
@@ -12,10 +12,12 @@ use Rattle.fault_memory.specs.declared.error.FaultError.TheVariants.{OutOfMemory
 use Rattle.journal.specs.Journal.{Adds, GarageValue}
 use Rattle.journal.specs.declared.event.Event.TheVariants.{Turned}
 use Rattle.garage.specs.Answers.{Begins}
+use Rattle.garage.specs.Causes.{has_open_dm1, held_at}
 use Rattle.garage.specs.Crew.{Sitting}
-use Rattle.garage.specs.Hearing.{HasHeardAll, HearsMany, IsHearingCut}
+use Rattle.garage.specs.Hearing.{HasHeardAll, HearsMany, IsHearingCut, IsNoMemoryOrFullAt}
 use Rattle.garage.specs.declared.answers.Begin.TheVariants as begin
-use Rattle.garage.specs.declared.error.GarageError.TheVariants.{Stranger}
+use Rattle.garage.specs.declared.error.GarageError.{GarageError}
+use Rattle.garage.specs.declared.error.GarageError.TheVariants.{Stranger, Unclaimed}
 use Rattle.script_answer.specs.declared.answer.LineAnswer.{LineAnswer}
 use Rattle.script_answer.specs.declared.answer.LineAnswer.TheVariants as answer
 use Rattle.script_answer.specs.declared.refusal.Refusal.{Refusal}
@@ -55,18 +57,22 @@ HearsSo sitting asked most (Ok (answer.Heard n)) g p g' p' = HearsMany sitting a
 HearsSo sitting asked most (Err (Garage e)) g p g' p' = (n : ℕ) × (n < most) × IsHearingCut sitting asked n e g p g' p'
 HearsSo sitting asked most r g p g' p' = ⊥
 
--- a DM1 of its fault memory began, or one is under way; refused, nothing changed
+-- why no DM1 of the unit of this seat begins: it holds no address; or it does, no DM1 is under way, and the journal has no room, or there is no memory
+abbrev pub BeginsNone : ℕ → GarageValue → GarageError → Type 0
+BeginsNone k g e = ((e ≡ Unclaimed) × IsNone (held_at g k)) ⊎ (IsSome (held_at g k) × (has_open_dm1 g k ≡ false) × IsNoMemoryOrFullAt g e)
+
+-- a DM1 of its fault memory began, or one is under way; or it was refused for such a reason, and nothing changed
 abbrev pub BeginsSo : {P : Type 0} → (P → Sitting) → UnitStep P
 BeginsSo sitting (Ok answer.Begun) g p g' p' = Begins g (sitting p).seat (sitting p).memory begin.Begun g'
 BeginsSo sitting (Ok answer.Held) g p g' p' = Begins g (sitting p).seat (sitting p).memory begin.Held g'
 BeginsSo sitting (Ok a) g p g' p' = ⊥
-BeginsSo sitting (Err (Garage e)) g p g' p' = (g' ≡ g) × (p' ≡ p)
+BeginsSo sitting (Err (Garage e)) g p g' p' = BeginsNone (sitting p).seat g e × (g' ≡ g) × (p' ≡ p)
 BeginsSo sitting (Err r) g p g' p' = ⊥
 
--- its turn ended; refused, nothing changed
+-- its turn ended; or the journal has no room, or there is no memory, and nothing changed
 abbrev pub TurnsSo : {P : Type 0} → (P → Sitting) → UnitStep P
 TurnsSo sitting (Ok a) g p g' p' = (a ≡ answer.Done) × Adds g (Turned (sitting p).seat) g'
-TurnsSo sitting (Err (Garage e)) g p g' p' = (g' ≡ g) × (p' ≡ p)
+TurnsSo sitting (Err (Garage e)) g p g' p' = IsNoMemoryOrFullAt g e × (g' ≡ g) × (p' ≡ p)
 TurnsSo sitting (Err r) g p g' p' = ⊥
 
 -- so many codes were changed; or fewer, and the next one was refused for this

@@ -1,4 +1,4 @@
-use Rattle.std.proofs.Common.{◌≡◌, ◌∙◌, ℕ, ◌∷◌, [], None, IsOk, OnOk, option_map, refl, sym, ap, subst, true≢false, rules}
+use Rattle.std.proofs.Common.{◌≡◌, ◌∙◌, ℕ, ◌∷◌, [], None, IsOk, OnOk, option_map, refl, sym, ap, subst, true≢false, inr, rules}
 use denote.Param.Object.{read_made}
 use Rattle.std.proofs.KnownBytes.{Appends-nil}
 use Rattle.std.proofs.lemmas.Iterator.Consumers.{YieldsList-end}
@@ -33,7 +33,7 @@ loop-line-preserved g c =
             (wrote_line _ _ _ c.read_line-read.result w.in-Some-joining.newcomer.name w.in-Some-joining.newcomer.address w.match-new.joined _ _ (sym w.joining.ensures ∙ ap (option_map (λ j. (j.name, j.address))) w.in-Some-joining.is) (rw v.joined-is (subst (λ n. MovesByJoining n w.in-Some-joining.newcomer.address v.join-joined.result w.in-Some-bench.at.garage v.join-joined.new.self.garage) (ap (λ s. s.name) v.in-Ok.ensures.ok ∙ w.new-unit.ensures.name)
             (subst (λ n. MovesByJoining n w.in-Some-joining.newcomer.address v.join-joined.result w.in-Some-bench.at.garage v.join-joined.new.self.garage) (read_made own-1 (own-1.entry at-1-1) at-1-1 refl ℕ (λ j u. j.1.name_of u) _ _ v.in-Ok.unit.value v.into_dyn_box.ensures.1) v.join-joined.ensures.moves))) w.answer.ensures.told)
         | in-Err v ↦ came_to g.L.AnswerSink.lent g.L.AnswerSink.told (λ b. b.garage) c.read_line-read.result _ _ _ _ _ _ _ _ _ w.sink-is (w.bench-is ∙ v.bench-is) w.answered-is w.in-Some-bench.is w.answer.ensures.lent
-            (wrote_line _ _ _ c.read_line-read.result w.in-Some-joining.newcomer.name w.in-Some-joining.newcomer.address w.match-new.joined _ _ (sym w.joining.ensures ∙ ap (option_map (λ j. (j.name, j.address))) w.in-Some-joining.is) (rw v.joined-is refl) w.answer.ensures.told)
+            (wrote_line _ _ _ c.read_line-read.result w.in-Some-joining.newcomer.name w.in-Some-joining.newcomer.address w.match-new.joined _ _ (sym w.joining.ensures ∙ ap (option_map (λ j. (j.name, j.address))) w.in-Some-joining.is) (rw v.joined-is (inr (inr (inr (inr refl))), refl)) w.answer.ensures.told)
       ]
       | in-Some-bench+in-None-joining w ↦ came_to g.L.AnswerSink.lent g.L.AnswerSink.told (λ b. b.garage) c.read_line-read.result _ _ _ _ _ _ _ _ _ w.sink-is w.bench-is w.answered-is w.in-Some-bench.is w.answer-in-None-joining.ensures.lent
           (wrote_bench _ _ _ _ _ _ (sym w.joining.ensures ∙ ap (option_map (λ j. (j.name, j.address))) w.in-None-joining.is) w.answer-in-None-joining.ensures.does)

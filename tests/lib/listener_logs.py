@@ -1,11 +1,8 @@
 """The logs of tests/data/logs/listener: where a station that takes part would have answered, and one who only reads has to hear it otherwise.
 
 NAME.log, here or in examples/logs, is the log, NAME.lists.json what is to be listed, made by hand: for each unit, or address that nobody claimed
-(`"name": null`), its runs of equal entries, each with the address that it went to (`"to"`, null for all) and behind a semicolon what of it is not read. `needs` says what a program must have to read the log
-so: `listener`, `unclaimed rows` (a row for an address that nobody claimed), `forms` (of times), `relative times`.
-
-What the program has not yet is not tried with it, and the model alone is; for
-another log the word of its `needs` is put into PROGRAM_HAS.
+(`"name": null`), its runs of equal entries, each with the address that it went to (`"to"`, null for all) and behind a semicolon what of it is not
+read.
 """
 
 import json
@@ -16,8 +13,6 @@ from model import log_line, watch
 
 FOLDER = TOP / "tests/data/logs/listener"
 KINDS = ("dm1", "dm2", "dm6")
-PROGRAM_HAS = {"forms", "relative times"} | ({"listener", "unclaimed rows"} if watch.PROGRAM_LISTENS else set())
-MODEL_HAS = {"listener", "unclaimed rows", "relative times"}
 
 
 def log_of(name):
@@ -57,14 +52,11 @@ def differences(name, report, same):
 
 
 def tries(run, same):
-    """A name, and what says how a log differs, for each log that the model or the program has what it needs. `run` and `same` are those of
-    tests/lib/logs/common.py."""
+    """A name, and what says how a log differs, for each log. `run` and `same` are those of tests/lib/logs/common.py."""
     for name in sorted(lists.name.removesuffix(".lists.json") for lists in FOLDER.glob("*.lists.json")):
-        if wanted(name)["needs"] in MODEL_HAS:
-            yield f"{name} by the model", lambda name=name: differences(name, by_model(name), same)
-        if wanted(name)["needs"] in PROGRAM_HAS:
-            yield name, lambda name=name: differences(name, run(["watch", "--format", "json"], log_of(name))[1], same)
+        yield f"{name} by the model", lambda name=name: differences(name, by_model(name), same)
+        yield name, lambda name=name: differences(name, run(["watch", "--format", "json"], log_of(name))[1], same)
 
 
 def by_model(name):
-    return watch.watched(log_line.read_lines(log_of(name)), watch.Options.of([], listens=True))[0]["json"]
+    return watch.watched(log_line.read_lines(log_of(name)), watch.Options.of([]))[0]["json"]

@@ -48,7 +48,7 @@ def differences(name, by_watch, by_decode, status, run, same):
     """What of a file the program or the model tells otherwise."""
     data, found = (FOLDER / name).read_bytes(), []
     lines = log_line.read_lines(data)
-    models = {"watch": watch.watched(lines, watch.Options.of([], True)), "decode": decode.decoded(lines)}
+    models = {"watch": watch.watched(lines, watch.Options.of([])), "decode": decode.decoded(lines)}
     for command, told in (("watch", by_watch), ("decode", by_decode)):
         ran = run([command], data)
         found += same((ran[0], ran[2]), (status, told), command) + same(models[command][2:0:-1], (status, told), f"the model's {command}")
@@ -82,7 +82,7 @@ def packed_logs(run, same):
     for data, told in packed_inputs():
         lines = log_line.read_lines(data)
         last = f"no frame in {len(lines)} lines: {told}"
-        for command, model in (("watch", watch.watched(lines, watch.Options.of([], True))), ("decode", decode.decoded(lines))):
+        for command, model in (("watch", watch.watched(lines, watch.Options.of([]))), ("decode", decode.decoded(lines))):
             with tempfile.NamedTemporaryFile() as file:
                 file.write(data)
                 file.flush()

@@ -6,6 +6,7 @@ import html
 import re
 
 from model.ever import Told, codes_ever, lamps_ever, rank, silence
+from model.ever_reported import duration
 from model.words import FAILURE_MODES, trouble_words
 
 WORST = ["stop", "amber", "mil", "protect"]
@@ -26,16 +27,6 @@ def clock(time, thousandths=False):
     """A time of day by UTC."""
     seconds = time // 1_000_000 % 86_400
     return f"{seconds // 3600:02}:{seconds // 60 % 60:02}:{seconds % 60:02}" + (f".{time // 1000 % 1000:03}" if thousandths else "")
-
-
-def duration(time):
-    """How long something was, in two units."""
-    seconds = time // 1_000_000
-    if seconds < 60:
-        return f"{seconds}.{time // 100_000 % 10} s"
-    if seconds < 3600:
-        return f"{seconds // 60} min {seconds % 60} s"
-    return f"{seconds // 3600} h {seconds // 60 % 60} min" if seconds < 86_400 else f"{seconds // 86_400} d {seconds // 3600 % 24} h"
 
 
 def shortened(text, most):

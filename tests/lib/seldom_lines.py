@@ -9,8 +9,6 @@ import re
 import socket
 import tempfile
 
-from harness import TOP
-
 from model import log_line, watch
 
 CLAIM = b"(1.000000) can0 18EEFF00#A000000000000000\n"
@@ -19,7 +17,7 @@ MOST_PAIRS = 4096
 
 def by_model(words, data, form="text"):
     """The status, the output and standard error of `watch` with these words."""
-    texts, errors, status = watch.watched(log_line.read_lines(data), watch.Options.of(words, True))
+    texts, errors, status = watch.watched(log_line.read_lines(data), watch.Options.of(words))
     return status, texts[form], errors
 
 

@@ -1,9 +1,8 @@
 """The logs of tests/data/logs/whole: of each all that `watch` and `decode` write of it is stored, made by hand from the rules.
 
-NAME.log is the log, NAME.words are the words behind `watch`; NAME.watch.txt, .watch.json, .watch.csv, .decode.txt and .decode.json are what is
-written, NAME.errors is what both tell of bad lines, and NAME.decode.errors what `decode` tells, or NAME.listening.errors and so on,
-where that differs. Where a listener stands behind `watch`, it is NAME.listening.txt and so on with `--unclaimed hide`, and
-NAME.unclaimed.txt and so on without it. `every-event` has each event, each count and each form of a line, with numbers that differ, so that no two
+NAME.log is the log, NAME.words are the words behind `watch`; NAME.unclaimed.txt, .unclaimed.json, .unclaimed.csv, with `--unclaimed hide`
+NAME.listening.txt and so on, .decode.txt and .decode.json are what is written, NAME.errors is what both tell of bad lines, and NAME.decode.errors what `decode` tells, or NAME.listening.errors and so on,
+where that differs. `every-event` has each event, each count and each form of a line, with numbers that differ, so that no two
 of them can be taken for each other. `times` has times that jump back, repeat, and pass 2^63 nanoseconds; of `more-than-is-kept` more is heard than is kept at once.
 """
 
@@ -28,8 +27,8 @@ def words_of(name):
     return stored(name, "words").decode().split()
 
 
-# What stands behind `watch`, the words behind those of the log, and what the files are named after.
-WAYS = [(False, [], "watch"), (True, ["--unclaimed", "hide"], "listening"), (True, [], "unclaimed")]
+# The words behind those of the log, and what the files are named after.
+WAYS = [(["--unclaimed", "hide"], "listening"), ([], "unclaimed")]
 
 
 def wanted(name, more, file):
@@ -42,10 +41,10 @@ def wanted(name, more, file):
             yield words, (3 if errors else 0, stored(name, f"{file if command == 'watch' else command}.{ending}").decode(), errors.decode())
 
 
-def by_model(name, listens, more):
+def by_model(name, more):
     """The same by the model."""
     lines = log_line.read_lines(stored(name, "log"))
-    for command, (texts, errors, status) in (("watch", watch.watched(lines, watch.Options.of(words_of(name) + more, listens))), ("decode", decode.decoded(lines))):
+    for command, (texts, errors, status) in (("watch", watch.watched(lines, watch.Options.of(words_of(name) + more))), ("decode", decode.decoded(lines))):
         for form in FORMS[command]:
             yield status, texts[form], errors
 
@@ -61,20 +60,17 @@ def changes_differ(file, same):
     """The changes and the report, those of one moment in any order, as tests/run/logs has the program tell them."""
     log, _, hidden = file.stem.partition(".")
     words = ["--silence", "0", "--address", "248", *(["--unclaimed", "hide"] if hidden else [])]
-    texts, errors, status = watch.watched(log_line.read_lines((TOP / "examples/logs" / f"{log}.log").read_bytes()), watch.Options.of(words, watch.PROGRAM_LISTENS))
+    texts, errors, status = watch.watched(log_line.read_lines((TOP / "examples/logs" / f"{log}.log").read_bytes()), watch.Options.of(words))
     lines = [line.replace(" contested", "") for line in texts["text"].splitlines()]
     return same(sorted(lines), sorted(file.read_text().splitlines()), "lines") + same((errors, status), ("", 0), "standard error and status")
 
 
 def differences(name, run, same):
-    """What of a log's stored bytes the program or the model does not write, which has a station and a listener. `run` and `same` are those of
-    tests/lib/logs/common.py."""
+    """What of a log's stored bytes the program or the model does not write. `run` and `same` are those of tests/lib/logs/common.py."""
     found, log = [], stored(name, "log")
-    for listens, more, file in WAYS:
-        for (words, wanted_of_it), models in zip(wanted(name, more, file), by_model(name, listens, more), strict=True):
-            found += differing("the model's " + " ".join(words), models, wanted_of_it, same)
-            if listens == watch.PROGRAM_LISTENS:
-                found += differing(" ".join(words), run(words, log), wanted_of_it, same)
+    for more, file in WAYS:
+        for (words, wanted_of_it), models in zip(wanted(name, more, file), by_model(name, more), strict=True):
+            found += differing("the model's " + " ".join(words), models, wanted_of_it, same) + differing(" ".join(words), run(words, log), wanted_of_it, same)
     return found
 
 

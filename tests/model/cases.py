@@ -130,35 +130,25 @@ the station reads a packet to another
 """
 SHOWN = [f"the station shows a {kind} by {way}" for kind in TITLES.values() for way in ("a single frame", "a broadcast", "a session")]
 
-# Each line of a station's table by a frame of the other station, as far as a station ever sends such a frame.
-OTHER_STATION = """
-the station reads a claim of an address without owner
-the station reads a claim by the owner again
-the station reads a claim that takes an address from another NAME
-the station reads a cannot-claim
-the station drops a half joined broadcast since its source is claimed by another NAME
-the station drops a half joined session since its source is claimed by another NAME
-the station hears a cannot-claim
-the station hears a claim of an address that it does not hold
-the station defends its address against a higher NAME
-the station moves, since it may take another address
-the station moves past an address that is noted for another NAME
-the station loses its address to a lower NAME
-the station drops sessions since it has to claim anew
-the station withdraws frames since it has to claim anew
-the station is asked among all for its claim
-the station is asked among all for a claim that it cannot make
-the station is asked at its address for its claim
-the station is asked for what it does not know
-the station reads a request that it does not answer
-the station keeps an acknowledgment
-the station reads an acknowledgment for another
-the station reads an acknowledgment from an address without owner
-the station does not join a broadcast
-the station reads a packet of a broadcast that it does not join
-the station reads a grant to another
-the station reads an acknowledgment of the end to another
-the station reads an abort to another
+# What no frame of the other station does: a station never sends such a frame.
+NOT_BY_A_STATION = """
+the station meets a gap
+the station without an address meets a gap
+the station meets a gap after a gap
+the station withdraws frames after a gap
+the station may take another address, but none is free
+the station passes over a message from an address without owner
+the station joins a broadcast
+the station drops a half joined broadcast for a new one
+the station reads a further packet of a broadcast
+the station joins a session
+the station replaces a session
+the station aborts what it is asked to let send
+the station grants further packets
+the station reads a further packet of a session
+the station reads a packet of a session that it does not join
+the station reads a request to send to another
+the station reads a packet to another
 """
 # What the second station does as the first one does, beside that.
 SECOND_STATION = """
@@ -348,7 +338,7 @@ def lines(text):
 
 
 WANTED = lines(UNIT) + CLEARS + MESSAGES + lines(STATION) + SHOWN + lines(FROM_OUTSIDE) + UNREAD + lines(BUS) + lines(ANSWERS) + [
-    case + " by the other station" for case in lines(OTHER_STATION)
+    case + " by the other station" for case in lines(STATION) if case not in lines(NOT_BY_A_STATION)
 ] + [case + " at station 1" for case in lines(SECOND_STATION) + SHOWN] + lines(STATIONS) + [
     f"at: {command} at station {number} of {stations}" for command in AT_STATIONS for number, stations in ((0, 1), (0, 2), (1, 2))
 ] + [

@@ -1,14 +1,13 @@
 """What is heard on a bus by one who only reads: who owns an address, which message a packet completes, what a frame changes of that.
 
 A reading is a frame or a gap of missed frames. Each question is answered by looking back over the readings: over those of one source for
-a message, over the claims for an owner or a row. `Heard` has what holds for whoever listens; `Station` is one that stands at an address of
-the bus and would answer, though nobody hears it; `listener` has one that takes no part.
+a message, over the claims for an owner or a row. `listener` has one that takes no part.
 """
 
-from .frames import (ABORT, ACKNOWLEDGMENT, BAM, CLAIM, CONTROL, GLOBAL, LAST_ADDRESS, NULL, PACKET, RTS, TITLES, claimed_name, control_of, control_pgn,
-                     control_size, in_order, joined, number, requested)
+from .frames import (ABORT, ACKNOWLEDGMENT, BAM, CLAIM, CONTROL, GLOBAL, NULL, PACKET, RTS, TITLES, claimed_name, control_of, control_pgn,
+                     control_size, in_order, joined, number)
 from .log_cases import reach
-from .memory import Part, read_message
+from .memory import Part, read_at_all
 from .words import UNREAD
 
 
@@ -23,8 +22,6 @@ class Claim:
 
 class Heard:
     """The readings so far. A place is the number of a reading, from 1."""
-
-    JOINS_UNOWNED = False  # whether a message is joined that begins at an address without owner
 
     def __init__(self):
         self.place = self.last_gap = 0
@@ -61,7 +58,7 @@ class Heard:
         where none is.
 
         A broadcast starts with the last announcement to all, a session with the last request to send of this pair of addresses, whatever
-        group it is of. It is joined where that is a DM1, DM2 or DM6 and the source had an owner then. It is over where its packets are whole, or one
+        group it is of. It is joined where that is a DM1, DM2 or DM6. It is over where its packets are whole, or one
         was not the next; where its source was claimed under another NAME since; and a session where either side aborted.
         """
         begins, packets, names = BAM if dest == GLOBAL else RTS, [], []
@@ -78,7 +75,7 @@ class Heard:
             return None
         packets.reverse()
         owner = self.owner(source, at)
-        if control_pgn(frame) not in TITLES or owner is None and not self.JOINS_UNOWNED or any(name != owner for name in names):
+        if control_pgn(frame) not in TITLES or any(name != owner for name in names):
             return None
         if len(packets) >= frame.data[3] or not in_order(packets, len(packets)):
             return None
@@ -128,8 +125,6 @@ class Heard:
             return self.take_packet(frame, "broadcast")
         if pgn == PACKET and self.joins_sessions_to(frame.dest):
             return self.take_packet(frame, "session")
-        if requested(frame) is not None:
-            return self.take_request(frame)
         return []
 
     def joins_sessions_to(self, dest):
@@ -138,10 +133,6 @@ class Heard:
     def message_of(self, source, dest):
         """What tells the messages apart whose packets are looked at for being late."""
         raise NotImplementedError
-
-    def take_request(self, frame):
-        """What is asked for changes nothing of what is heard."""
-        return []
 
     def take_claim(self, name, source):
         """A NAME is at an address from its claim on; it has none after a cannot-claim. Who claimed the address last has lost it, where it
@@ -174,36 +165,20 @@ class Heard:
                 if (dest == GLOBAL or self.joins_sessions_to(dest)) and self.under_way(source, dest):
                     reach(f"a {'broadcast' if dest == GLOBAL else 'session'} ended by a claim of the source under another NAME")
 
-    def is_to_me(self, frame):
-        raise NotImplementedError
-
     def take_acknowledgment(self, frame):
-        """It is kept for the owner of its source where it answers the one who listens (J1939-21, 5.4.4)."""
+        """It is kept for the owner of its source (J1939-21, 5.4.4)."""
         owner, told = self.owner(frame.source), (frame.data[0], number(frame.data[5:8]))
         if owner is None:
             reach("an acknowledgment from an address without owner")
-            return []
-        if not self.is_to_me(frame):
             return []
         again, self.acknowledged[owner] = self.acknowledged.get(owner) == told, told
         reach("an acknowledgment that " + ("was" if again else "is") + " told")
         return [] if again else [("ack", owner, *told, frame.source, frame.data[4], frame.dest)]
 
-    def shown_of(self, payload):
-        """A station lists what is as the standard has it."""
-        return read_message(payload)
-
-    def whose(self, source, place=None):
-        """Under which NAME a message is listed that began at a place; None where it is not."""
-        return self.owner(source, place)
-
     def take_message(self, source, dest, place, kind, payload, how):
         """A message that ended, and began at a place: it is listed under the owner that its source had then, or can't be read."""
         who = self.whose(source, place)
-        if who is None:
-            reach(f"a {how} from an address without owner")
-            return [("unowned", source)]
-        shown = self.shown_of(payload)
+        shown = read_at_all(payload)
         if shown is None:
             reach(f"a {how} cannot be read")
             self.unread += 1
@@ -252,103 +227,8 @@ class Heard:
         packets = [*packets, frame.data]
         if not in_order(packets, len(packets)):
             reach(f"a {how} is broken by a packet that is not the next")
-            return self.broken(start, frame)
-        self.goes_on(start, packets)
+            return []
         if len(packets) < start.data[3]:
             reach(f"a {how} goes on")
             return []
         return self.take_message(frame.source, frame.dest, at, control_pgn(start), joined(packets, control_size(start)), how)
-
-    def broken(self, start, frame):
-        return []
-
-    def goes_on(self, start, packets):
-        """What one who takes part would answer."""
-
-
-class Station(Heard):
-    """One that stands at an address and would answer as the rules say (J1939-21, -81). It joins sessions to its own address alone."""
-
-    GRANT = 255  # the most packets that it lets send at once
-    FIRST, LAST = 128, 247  # where one that may take any address moves to (J1939-81, 4.4)
-
-    def __init__(self, name, address):
-        super().__init__()
-        self.name, self.held = name, address
-        self.claimed_anew = 0  # the place of the last claim by which it had to claim anew
-        self.not_sent = 0
-
-    def joins_sessions_to(self, dest):
-        return dest == self.held
-
-    def message_of(self, source, dest):
-        return source, "all" if dest == GLOBAL else "me"
-
-    def is_to_me(self, frame):
-        if self.held is None or self.held not in (frame.data[4], frame.dest):
-            reach("an acknowledgment for another")
-            return False
-        return True
-
-    def is_ended(self, source, dest, start):
-        return super().is_ended(source, dest, start) or self.claimed_anew > start
-
-    def take_gap(self, count):
-        """It would claim again and ask all for their claims."""
-        self.not_sent += 2
-        return super().take_gap(count)
-
-    def take_claim(self, name, source):
-        is_mine = source == self.held and name != self.name
-        if is_mine and any(self.under_way(other, self.held) for other in self.read):
-            reach("the station's sessions end since its address is claimed")
-        told = super().take_claim(name, source)
-        if not is_mine:
-            return told
-        self.claimed_anew = self.place
-        if self.name < name:
-            reach("the station defends its address")
-        else:
-            free = (address for address in range(self.FIRST, self.LAST + 1) if address not in self.of_source or self.of_source[address].name == self.name)
-            self.held = next(free, None) if self.name >> 63 else None
-            reach("the station loses its address" if self.held is None else "the station moves")
-        self.not_sent += 1
-        return told
-
-    def take_request(self, frame):
-        """It answers who asks for claims, and says to one who asks it for anything else that it does not know that."""
-        if requested(frame) == CLAIM and frame.dest in (self.held, GLOBAL):
-            reach("the station would answer a request for claims")
-            self.not_sent += 1
-        elif frame.dest == self.held and frame.source <= LAST_ADDRESS:
-            reach("the station would answer that it does not know what is asked for")
-            self.not_sent += 1
-        else:
-            reach("the station is asked for nothing that it answers")
-        return []
-
-    def take_request_to_send(self, frame):
-        """It lets send what it joins, and aborts what it does not (J1939-21, 5.10.3)."""
-        if frame.source > LAST_ADDRESS:
-            reach("the station would let send nobody")
-        else:
-            starts = control_pgn(frame) in TITLES and self.owner(frame.source) is not None
-            reach("the station would let send" if starts else "the station would abort what it is asked to let send")
-            self.not_sent += 1
-        return super().take_request_to_send(frame)
-
-    def broken(self, start, frame):
-        if frame.dest != GLOBAL:
-            reach("the station would abort for a packet out of order")
-            self.not_sent += 1
-        return []
-
-    def goes_on(self, start, packets):
-        if start.dest == GLOBAL:
-            return
-        if len(packets) == start.data[3]:
-            reach("the station would acknowledge the end")
-            self.not_sent += 1
-        elif len(packets) % min(self.GRANT, start.data[4] or 255) == 0:
-            reach("the station would grant further packets")
-            self.not_sent += 1

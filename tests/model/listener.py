@@ -1,8 +1,8 @@
 """One who takes no part on the bus: it hears what goes between any two addresses, and lists it under whoever sent it.
 
-The rules are those of `Heard`, for every pair of addresses. What differs from a station: it holds no address, so no claim but the source's ends a
-message, and nothing is ever answered; and a message from an address that nobody claimed since the last gap is listed under that
-address alone, until the next gap, and never under a NAME.
+The rules are those of `Heard`, for every pair of addresses. It holds no address, so no claim but the source's ends a message, and nothing is ever
+answered; a message from an address that nobody claimed since the last gap is listed under that address alone, until the next gap, and never under a
+NAME.
 """
 
 import collections
@@ -10,7 +10,6 @@ import collections
 from .frames import GLOBAL
 from .heard import Heard
 from .log_cases import reach
-from .memory import read_at_all
 
 # Whose a message is that began at an address without owner: the address's, between two gaps. After a gap it may be another unit's.
 Unclaimed = collections.namedtuple("Unclaimed", "address gaps")
@@ -18,9 +17,6 @@ Unclaimed = collections.namedtuple("Unclaimed", "address gaps")
 
 class Listener(Heard):
     """It joins sessions to every address."""
-
-    JOINS_UNOWNED = True
-    not_sent = 0  # it sends nothing
 
     def __init__(self, gaps=0):
         """One before which there were so many gaps."""
@@ -45,14 +41,6 @@ class Listener(Heard):
     def take_gap(self, count):
         self.gaps += 1
         return super().take_gap(count)
-
-    def is_to_me(self, frame):
-        """It hears every acknowledgment."""
-        return True
-
-    def shown_of(self, payload):
-        """It lists what can be read, too, of what is not as the standard has it."""
-        return read_at_all(payload)
 
     def take_message(self, source, dest, place, kind, payload, how):
         if dest != GLOBAL:

@@ -23,7 +23,7 @@ FRACTION = r"\.([0-9]{3}|[0-9]{6}|[0-9]{9})"
 TIME = re.compile(r"([0-9]{1,10})" + FRACTION)
 DATE = re.compile(r"([0-9]{4})-([0-9]{2})-([0-9]{2}) ([0-9]{2}):([0-9]{2}):([0-9]{2})" + FRACTION)
 NO_DIGIT = re.compile("[^0-9A-Fa-f]")
-EXTENDED, ERROR_FRAME, BEYOND = 1 << 29, 1 << 29, 1 << 30  # 29 bits of identifier; candump marks an error frame by the next bit
+EXTENDED, BEYOND = 1 << 29, 1 << 30  # 29 bits of identifier; candump marks an error frame by the next bit
 CONTROLLER, OVERFLOW = 0x00000004, 0x01  # the class of errors of the controller; in its second byte: it lost a frame
 
 SHORT, REMOTE, FD, ERROR = "11-bit identifier", "remote frame", "CAN FD frame", "error frame"

@@ -53,6 +53,7 @@ class Session:
     def __init__(self, kind, payload, dest):
         self.kind, self.payload, self.dest = kind, payload, dest
         self.following = 1  # the first packet that is not yet queued; 256 after the last of 255
+        self.asked = self.asked_for = 0  # (on a real bus: how often a packet, or an earlier one, was asked for again, and which)
 
     def all_queued(self):
         return self.following > packets_of(len(self.payload))

@@ -8,7 +8,6 @@ Equal entries that come one after the other under a NAME are a run.
 from .ever_reported import HEADER as EVER_HEADER
 from .ever_reported import EverInLog
 from .frames import ABORT, BAM, CONTROL, CTS, GLOBAL, KINDS, NULL, PACKET, RTS, claim, claimed_name, control_of, control_pgn
-from .heard import Station
 from .listener import Listener, Unclaimed
 from .log_cases import reach
 from .memory import Part
@@ -18,9 +17,6 @@ from .vins import Vins
 from .notices import Absence, BadLines, Clock, without_frames
 from .clocks import Clocks
 from .words import ABORTS, ANSWERS, FAILURE_MODES, NOT_AVAILABLE, address_words, dumped, group_words, lamp_words, meaning_words, name_fields, name_text, seen, seen_json, shown_object, shown_words, time_text, trouble_object, trouble_words
-
-# What the program has. To be switched on with it: all tests of lines of a log then try the program as one that listens.
-PROGRAM_LISTENS = True  # whether a listener stands behind `watch`, or still a station
 
 MOST_PAIRS = 4096  # between which messages may be half joined
 CONTEST = 250_000  # microseconds: as long as a unit waits for a contender before it sends (J1939-81, 4.4)
@@ -33,23 +29,21 @@ UNITS_CLAIM = "cansend can0 18EAFFFE#00EE00"
 
 
 class Options:
-    """How a bus is watched. The silence is in milliseconds, or the standard's; 0 lets a packet come at any time. Behind the watch stands a station, or a listener:
-    then the address says whose sessions are shown, and without one all are; and an address that nobody claimed has a row, or it is told
-    of it as a station tells."""
+    """How a bus is watched. The silence is in milliseconds, or the standard's; 0 lets a packet come at any time. The address says whose sessions are
+    shown, and without one all are; an address that nobody claimed has a row, or is told of where that is hidden."""
 
-    def __init__(self, listens=False):
-        self.listens = listens
-        self.lists_unclaimed = listens
-        self.bus, self.address, self.name, self.assumed = None, None if listens else 248, 1, []
+    def __init__(self):
+        self.lists_unclaimed = True
+        self.bus, self.address, self.assumed = None, None, []
         self.methods = {}  # of the units whose older codes are read
         self.each, self.unit, self.first, self.last, self.clock = False, None, None, None, Clocks.of("log")
         self.skips_bad, self.silence, self.strict = False, None, False
         self.most, self.keep = 65_536, 1_000_000  # of how many NAMEs is known at once, and how many runs are kept
 
     @staticmethod
-    def of(words, listens=False):
+    def of(words):
         """What the words behind `watch` mean."""
-        given, words, asked = Options(listens), iter(words), [None, None]
+        given, words, asked = Options(), iter(words), [None, None]
         for word in words:
             if word == "--strict":
                 given.strict = True
@@ -69,7 +63,7 @@ class Options:
             elif word == "--address":
                 given.address = int(value)
             elif word == "--name":
-                given.name = int(value, 16)
+                pass  # (it says nothing any more)
             elif word == "--assume":
                 address, _, name = value.partition("=")
                 given.assumed.append((int(address), int(name, 16)))
@@ -85,18 +79,15 @@ class Options:
             elif word == "--keep":
                 given.keep = int(value)
             elif word == "--unclaimed":
-                given.lists_unclaimed = listens and value == "show"
+                given.lists_unclaimed = value == "show"
             else:
                 assert word == "--format", word
         given.first, given.last = (None if word is None else time_asked(word, given.clock) for word in asked)
         return given
 
-    def heard(self, gaps=0):
-        return Listener(gaps) if self.listens else Station(self.name, self.address)
-
     def shows(self, to):
-        """A station lists what went to all or to it."""
-        return not self.listens or self.address is None or to in (GLOBAL, self.address)
+        """Where one address is shown, what went to all or to it."""
+        return self.address is None or to in (GLOBAL, self.address)
 
     def is_of_unit(self, who, source):
         """Whether what a unit sends from an address is of the unit of which alone it is told."""
@@ -153,14 +144,14 @@ class Run:
     def __init__(self, shown, to, contested, time):
         self.shown, self.to, self.contested, self.first, self.last, self.times = shown, to, contested, time, time, 1
 
-    def words(self, listens):
-        """A listener says to whom it went, where that is not to all."""
-        to = f" to {address_words(self.to, True)}" if listens and self.to != GLOBAL else ""
+    def words(self):
+        """To whom it went, where that is not to all."""
+        to = f" to {address_words(self.to, True)}" if self.to != GLOBAL else ""
         return shown_words(self.shown, True) + (" contested" if self.contested else "") + to + "".join(meaning_words(code.spn, code.fmi) for code in self.shown[1]) + (
             f"; {trouble_words(self.shown.trouble())}" if isinstance(self.shown, Part) else "")
 
-    def object(self, listens):
-        to = {"to": self.to} if listens and self.to != GLOBAL else {}
+    def object(self):
+        to = {"to": self.to} if self.to != GLOBAL else {}
         return shown_object(self.shown) | {"contested": self.contested} | to
 
 
@@ -175,7 +166,7 @@ class Watch:
         """The name is that of one bus of several; `told` is where its text and its objects go then, `ever` what units of all buses told at any time;
         `starts` has the time of the first line that has one."""
         self.ever, self.starts = ever or EverInLog(), starts
-        self.options, self.bus, self.name, self.heard = options, name or options.bus, name, options.heard()
+        self.options, self.bus, self.name, self.heard = options, name or options.bus, name, Listener()
         self.pacing, self.broken = Pacing(options.silence), 0
         self.counts = dict.fromkeys([*COUNTS, "not_attributed"], 0)
         self.now = None  # the time of the newest line of the bus that has one
@@ -212,10 +203,10 @@ class Watch:
             reach("begun anew with the owner of an address that holds none")
         if len({address for _, address in owners}) > len({name for name, _ in owners}):
             reach("begun anew with the owner of an address that it has left")
-        if self.options.listens and self.heard.gaps:
+        if self.heard.gaps:
             reach("begun anew behind a gap")
         self.missed_before, self.unread_before, self.partly_before = self.missed(), self.unread(), self.partly()
-        self.heard, self.pacing, self.now = self.options.heard(getattr(self.heard, "gaps", 0)), Pacing(self.options.silence), None
+        self.heard, self.pacing, self.now = Listener(self.heard.gaps), Pacing(self.options.silence), None
         self.runs, self.told_unowned, self.kept, self.pairs = {}, set(), 0, set()
         self.vins.forget()
         if self.vins.of:
@@ -300,7 +291,7 @@ class Watch:
         key, fate = self.heard.message_of(frame.source, frame.dest), "read"
         if frame.pgn == PACKET and self.is_followed(frame.dest):
             fate = self.pacing.packet(key, frame.data, time, before[frame.source, frame.dest][2] if (frame.source, frame.dest) in before else [])
-        if self.options.listens and fate != "late":
+        if fate != "late":
             self.hear_vin(number, frame, key)
         changes = self.heard.take(frame) if fate == "read" else []
         self.counts["withheld"] += fate == "late"
@@ -312,7 +303,7 @@ class Watch:
         elif what == CTS and frame.source != GLOBAL and self.is_followed(frame.source):
             self.pacing.clear_to_send(self.heard.message_of(frame.dest, frame.source), frame.data[1], frame.data[2], time)
         self.tell(number, changes)
-        if self.options.listens and not any(what in ("entry", "unread") for what, *_ in changes):
+        if not any(what in ("entry", "unread") for what, *_ in changes):
             self.tell_broken(number, frame, fate, before)
 
     def hear_vin(self, number, frame, key):
@@ -349,9 +340,7 @@ class Watch:
         return self.heard.under_way(source, dest)
 
     def open(self):
-        """How many messages are half joined; a station does not tell that."""
-        if not self.options.listens:
-            return 0
+        """How many messages are half joined."""
         pairs = {(source, frame.dest) for source, read in self.heard.read.items() for _, frame in read if frame.pgn == CONTROL}
         return sum(self.half_joined(*pair) is not None for pair in pairs)
 
@@ -466,14 +455,13 @@ class Watch:
             return
         reach(("not told again" if source in self.told_unowned else "told") + " of an address without owner")
         if source not in self.told_unowned:
-            if self.options.listens:
-                reach("an address that nobody claimed is told of, and has no row")
+            reach("an address that nobody claimed is told of, and has no row")
             self.told_unowned.add(source)
             self.write(number, "unowned", f"unowned DM from {source_words(source)}, which nobody has claimed in what was read: not shown", address=source)
 
     def tell_ack(self, number, name, control, pgn, source, requester, to):
-        """A listener hears those to others too, and shows all, or those to the one address whose messages are shown."""
-        if self.options.listens and self.options.address not in (None, requester, to):
+        """All, or those to the one address whose messages are shown."""
+        if self.options.address not in (None, requester, to):
             reach("an acknowledgment to another address than the one that is shown")
             return
         if not self.is_told((name, source)):
@@ -483,12 +471,9 @@ class Watch:
                    control=control, pgn=pgn, answer=answer, requester=requester)
 
     def tell_unread(self, number, count, who, kind, source, to, why, how):
-        """A listener says whose it is."""
+        """Whose it is, too."""
         self.counts["not_attributed"] += isinstance(who, Unclaimed) and how == "single frame"
         count += self.unread_before
-        if not self.options.listens:
-            self.write(number, "unread", f"unread {count}", count=count)
-            return
         if not self.is_told((who, source)):
             return
         word, sent = WORD_OF[kind], f" to {address_words(to, True)}" if to != GLOBAL else ""
@@ -521,11 +506,11 @@ class Watch:
             shown = shown.by(self.options.methods[who])
             reach("an older code is read by its unit's method" if shown.trouble()["converted"] else "a unit's method reads no code")
         runs, contested = self.runs.setdefault((who, kind), []), self.is_contested(source)
-        begins = not (runs and is_same(runs[-1].shown, shown) and runs[-1].contested == contested and (runs[-1].to == to or not self.options.listens))
+        begins = not (runs and is_same(runs[-1].shown, shown) and runs[-1].contested == contested and runs[-1].to == to)
         self.ever.hear((self.name, who), kind, shown, self.now, begins)
         if not runs or not is_same(runs[-1].shown, shown):
             reach("an entry is another one than the one before it" if runs else "an entry begins a list")
-        elif self.options.listens and runs[-1].to != to:
+        elif runs[-1].to != to:
             reach("an entry is equal to the one before it, but went elsewhere")
         elif runs[-1].contested != contested:
             reach("an entry is equal to the one before it, " + ("but contested" if contested else "which was contested"))
@@ -536,9 +521,9 @@ class Watch:
             return
         runs.append(Run(shown, to, contested, self.now))
         self.kept += max(1, len(shown[1]))
-        word, listens = WORD_OF[kind], self.options.listens
+        word = WORD_OF[kind]
         unit = self.who_words(who) + (":" if isinstance(who, Unclaimed) else "")
-        self.write(number, word, f"{word} {unit} {runs[-1].words(listens)}", **self.who_object(who), **runs[-1].object(listens),
+        self.write(number, word, f"{word} {unit} {runs[-1].words()}", **self.who_object(who), **runs[-1].object(),
                    entry=self.entries(who, kind), behind=trouble_object(shown))
 
     # ---- whose a message is
@@ -628,9 +613,9 @@ class Watch:
         ) + (f"; withheld {counts['withheld']}" if counts["withheld"] else "") + "\n"
 
     def row_object(self, who):
-        row, listens = self.who_object(who) | ({"assumed": True} if self.is_assumed(who) else {}), self.options.listens
+        row = self.who_object(who) | ({"assumed": True} if self.is_assumed(who) else {})
         for word, kind in KINDS.items():
-            row[word] = [{"times": run.times, "first": self.time(run.first), "last": self.time(run.last), **run.object(listens), **trouble_object(run.shown)}
+            row[word] = [{"times": run.times, "first": self.time(run.first), "last": self.time(run.last), **run.object(), **trouble_object(run.shown)}
                          for run in self.runs_of(who, kind)]
         return row | self.bus_object() | ({} if isinstance(who, Unclaimed) else unit_keys(who)) | self.ever.object((self.name, who)) | (
             {"vin": self.vins.text(who)} if who in self.vins.of else {})
@@ -642,13 +627,13 @@ class Watch:
         return seen_json(dumped(head | {"rows": [watch.row_object(who) for watch in watches for who in watch.rows()],
                        "missed": sum(bus["missed"] for bus in buses), "unread": sum(bus["unread"] for bus in buses),
                        "lines": {key: counts[key] for key in COUNTS}, "not_attributed": counts["not_attributed"],
-                       "not_sent": sum(watch.heard.not_sent for watch in watches)}
+                       "not_sent": 0}
                       | ({"buses": buses} if options.each else {}) | ({"ever_left_out": watches[0].ever.left_out} if watches and watches[0].ever.left_out else {}) | ({"partly": partly} if partly else {})
-                      | ({"broken": sum(watch.broken for watch in watches), "open": sum(watch.open() for watch in watches)} if options.listens else {}))) + "\n"
+                      | {"broken": sum(watch.broken for watch in watches), "open": sum(watch.open() for watch in watches)})) + "\n"
 
     @staticmethod
     def header(options):
-        return HEADER + (",to" if options.listens else "") + (",bus" if options.each else "") + ",function,instance,manufacturer,identity,unit_text,code_text,name_hex" + EVER_HEADER + ",fmi_text,not_read,vin\n"
+        return HEADER + ",to" + (",bus" if options.each else "") + ",function,instance,manufacturer,identity,unit_text,code_text,name_hex" + EVER_HEADER + ",fmi_text,not_read,vin\n"
 
     @staticmethod
     def report_rows(watches, options):
@@ -666,13 +651,13 @@ class Watch:
             for run in self.runs_of(who, kind):
                 found = True
                 times = ["" if time is None else time_text(time) for time in (run.first, run.last)]
-                to = ["" if run.to == GLOBAL else str(run.to)] if self.options.listens else []
+                to = "" if run.to == GLOBAL else str(run.to)
                 for code in run.shown[1] or [None]:
-                    yield [*before, word, *times, str(run.times), run.shown[0].hex().upper(), *self.code_values(code), "true" if run.contested else "false", *to], self.ever.values(
+                    yield [*before, word, *times, str(run.times), run.shown[0].hex().upper(), *self.code_values(code), "true" if run.contested else "false", to], self.ever.values(
                         (self.name, who), kind, code) + [csv_text(FAILURE_MODES[code.fmi]) if code else "", f'"{trouble_words(run.shown.trouble())}"' if isinstance(run.shown, Part) else ""]
         if not found:
             reach("a row without entries")
-            yield before + [""] * (10 if self.options.listens else 9), [""] * 11
+            yield before + [""] * 10, [""] * 11
 
     @staticmethod
     def code_values(code):

@@ -51,7 +51,7 @@ def frames_of_no_bus():
     for words, data, told in NOTHING_IS_TOLD:
         status, out, err = run(["watch", *words], data)
         found += same((status, err), (3, told + "\n"), f"{words} {data[:60]}") + ([] if " unread 0\n" in out or words[:2] == ["--bus", "all"] else [out])
-        found += same((3, err), watch.watched(log_line.read_lines(data), watch.Options.of(words, True))[:0:-1], f"the model: {words} {data[:60]}")
+        found += same((3, err), watch.watched(log_line.read_lines(data), watch.Options.of(words))[:0:-1], f"the model: {words} {data[:60]}")
     for words, data in TOLD:
         status, _, err = run(["watch", *words], data)
         found += same((status, err if words[:1] != ["--from"] or data[:1] == b"(" else ""), (0, ""), f"{words} {data[:60]}")

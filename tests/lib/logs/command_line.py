@@ -48,7 +48,7 @@ REFUSED = [
     ("check --strict", "Usage: j1939bench check"),
     ("watc", "tip: a similar subcommand exists: 'watch'"),
     ("nothing", "error: unrecognized subcommand 'nothing'"),
-    ("", "[subcommands: script, threads, log, check, watch, decode, live, help]"),
+    ("", "[subcommands: script, threads, log, check, watch, decode, live, tester, help]"),
     ("script --fast", None),
     ("threads --turn 3", None),
 ]

@@ -43,7 +43,7 @@ def corners():
         for what, given, lines in CORNERS:
             data = "".join(line + "\n" for line in lines).encode()
             read = log_line.read_lines(data)
-            of_watch = watch.watched(read, watch.Options.of(given.split(), True))
+            of_watch = watch.watched(read, watch.Options.of(given.split()))
             of_decode = decode.decoded(read, TEXTS, True)
             for words_of_it, (forms, errors, status) in ((["watch", *given.split()], of_watch), (["decode", "--join", "--texts", texts.name], of_decode)):
                 for form, text in forms.items():

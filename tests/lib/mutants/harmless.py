@@ -1,7 +1,8 @@
 """Wrong bodies that no user would notice, each with why: a path, the line as it is, the line as it would be."""
 
 HARMLESS = {
-    ("run_program", '[ "${1-}" = watch ] || return 1', '[ "${1-}" = watch ] || return 2'): "any status but 0 says no",
+    ("run_program", 'watch) watches_no_file "$@" || return 1 ;;', 'watch) watches_no_file "$@" || return 2 ;;'): "any status but 0 says no",
+    ("run_program", 'tester) asks_for_no_page "$@" || return 1 ;;', 'tester) asks_for_no_page "$@" || return 2 ;;'): "any status but 0 says no",
     ("run_program", "*) return 1 ;;", "*) return 2 ;;"): "any status but 0 says no",
     ("run_program", ': "${ended:=}"', ': "${endxd:=}"'): "what is not set is empty, since no -u is set",
     ("run_program", "trap 'ended=130' HUP INT QUIT TERM", "trap 'ended=130' INT QUIT TERM"): "whoever sources it has set the same; else nothing was read by then",

@@ -19,12 +19,13 @@ TIMES = 3
 TOGETHER = 4
 # Parts over random inputs with fewer of them: most wrong bodies are seen by the first.
 FEWER = {"run/random_scripts": ["--seed", "1", "--runs", "120"], "run/random_logs": ["--seed", "1", "--runs", "24"], "run/random_live": ["--lines", "800", "--most", "60"],
+         "run/random_tester": ["--lines", "800", "--most", "60"],
          "run/random_pages": ["--runs", "4"], "run/stop_at_every_frame": None, "measure/live": None, "run/soak": None, "run/threads": None}
 # The slow ones, from the quickest on.
-SLOW = ["run/random_pages", "run/pages", "run/random_live", "run/live", "run/logs", "run/random_logs"]
+SLOW = ["run/random_tester", "run/random_pages", "run/pages", "run/random_live", "run/live", "run/tester", "run/logs", "run/random_logs"]
 LAST = ["run/random_pages", "--seed", "2", "--runs", "16"]
 # What a program without proof does not pass, since it has checks and takes more memory; and what no wrong body of a program can change.
-WITHOUT_PROOF = ("refuse_memory", "fail_streams", "faults", "refuse_live")
+WITHOUT_PROOF = ("refuse_memory", "fail_streams", "faults", "refuse_live", "refuse_tester")
 WITHOUT_PROGRAM = ("harness", "contracts", "one_home", "reading_list", "names_in_docs", "release", "constants", "c", "python", "random_units", "install",
                    "chosen_names")
 # The parts that try a script, where that is not plain by its name in them.

@@ -1,6 +1,7 @@
 //! `j1939bench_tester`: the subcommand `tester` of `j1939bench`, a station on a real bus that asks, reads and clears.
 #![tactic(auto)]
 
+mod report_file;
 mod tester;
 
 use command_line::{asked_for, done_elsewhere, ended, read_words};
@@ -25,6 +26,8 @@ fn run<
         + Wait
         + Sync
         + Send
+        + Clone
+        + Drop
         + Input<Reader = StdinLock<'static>>
         + Files<File = File>
         + 'static,

@@ -1,7 +1,9 @@
 //! `tester`: its files are opened here.
 
+use crate::report_file::PutFile;
 use command_line::{Errors, open};
 use program_io::{Failure, TesterArguments};
+
 use std::fs::{File, OpenOptions};
 use std::io;
 use std::io::StdinLock;
@@ -18,11 +20,17 @@ pub(crate) fn tester<
         + Wait
         + Sync
         + Send
+        + Clone
+        + Drop
         + Input<Reader = StdinLock<'static>>
         + Files<File = File>
         + 'static,
 >(rt: &R, words: TesterArguments<'_>, orders: &[&str]) -> Result<(), Failure> {
     tester_command::look_at_tester_words(rt.alloc(), &words, orders)?;
+    let report = match words.report {
+        Some(path) => Some(PutFile::new(rt, path)?),
+        None => None,
+    };
     let control = match words.control {
         Some(path) => Some(open_orders(rt, path)?),
         None => None,
@@ -34,6 +42,7 @@ pub(crate) fn tester<
         orders,
         boxed_reader(rt)?,
         control,
+        report,
         &mut io::writer(rt),
         &mut Errors::new(rt),
     )

@@ -1,14 +1,17 @@
 //! A station on a bus, which carries out orders one after the other.
 
+ghost use Rattle.std.specs.Prelude.{◌≤◌};
+ghost use Rattle.can_frame.specs.declared.address.TheConstants.{GREATEST_ADDRESS as GREATEST};
+
 use crate::lines::VerdictLine;
 use crate::part::{Clears, Outcome, Seen, UnitOutcome};
 use crate::queue::{LineOrder, NumberedOrder, OrderQueue};
 use crate::teller::Teller;
 use crate::words::TesterWays;
-use can_frame::{Frame, Pgn};
+use can_frame::{Frame, GREATEST_ADDRESS, Pgn};
 use entry_lists::{NewestEntries, Row};
 use live_lines::{HeardFrame, OnBus, ended_short};
-use live_station::{HearError, LiveStation, Pulled, Told, Verdict};
+use live_station::{HearError, LiveStation, Pulled, StationTimes, Told, Verdict};
 use log_lines::LinesEnd;
 use name_field::Name;
 use std::alloc::{AllocError, Global};
@@ -65,6 +68,16 @@ pub(crate) struct Tester {
     has_failed: bool,
     /// Whether memory was refused.
     pub(crate) is_short: bool,
+    /// How it takes part, where it begins anew.
+    part: TakesPart,
+}
+
+/// How a station takes part in its bus, and of how many NAMEs it knows at once.
+#[derive(Clone, Copy)]
+struct TakesPart {
+    grant: u8,
+    times: StationTimes,
+    most: usize,
 }
 
 impl Tester {
@@ -92,6 +105,11 @@ impl Tester {
             is_done: false,
             has_failed: false,
             is_short: false,
+            part: TakesPart {
+                grant: ways.grant,
+                times: ways.times,
+                most: ways.most,
+            },
         })
     }
 
@@ -158,6 +176,32 @@ impl Tester {
     /// That of the unit that a verdict is of.
     pub(crate) fn address_of(&self, verdict: &Verdict) -> Option<u8> {
         self.claimed(verdict.order.name()?)
+    }
+
+    /// Where it knows of as many NAMEs as it may, and no order is open, it begins anew at its address: it claims that again, and asks
+    /// for the claims of all.
+    fn make_room<N: Write>(&mut self, alloc: Global, notes: &mut N) {
+        if self.station.station().names() < self.part.most || self.station.open().is_some() {
+            return;
+        }
+        if let Some(held) = self.station.held() {
+            self.begin_anew(alloc, held.min(GREATEST_ADDRESS), notes);
+        }
+    }
+
+    /// Begins anew at this address, 0 to 253.
+    fn begin_anew<N: Write>(&mut self, alloc: Global, address: u8, notes: &mut N)
+        requires { address ≤ GREATEST }
+    {
+        let grant = self.part.grant.max(1);
+        match LiveStation::new(alloc, self.name, address, grant, self.part.times) {
+            Ok(station) => {
+                self.station = station;
+                self.lists = NewestEntries::new(alloc, 1);
+                self.teller.forgot(notes, self.part.most);
+            }
+            Err(_) => self.is_short = true,
+        }
     }
 
     /// Hears a frame. One that cannot be heard for want of memory counts as one that was not read.
@@ -262,6 +306,7 @@ impl OnBus for Tester {
     fn hear<N: Write>(&mut self, alloc: Global, heard: &HeardFrame, now: u64, notes: &mut N) {
         self.teller.mark.line = heard.line;
         self.teller.mark.time = heard.time;
+        self.make_room(alloc, notes);
         self.hear_frame(alloc, &heard.frame, now, notes);
     }
 

@@ -77,17 +77,23 @@ fn threads<R: Runtime + AllocGlobal + Threads + Wait + Sync>(
 
 #[inline(never)]
 fn log<R: Runtime + AllocGlobal>(rt: &R, words: LogArguments<'_>) -> Result<(), Failure> {
+    let Ok(mut writer) = BufWriter::new(rt.alloc(), io::writer(rt)) else {
+        return Err(Failure::from(Fault::Memory));
+    };
     script_run::log(
         rt.alloc(),
         words,
         &mut rt.reader(),
-        io::writer(rt),
+        &mut writer,
         Errors::new(rt),
     )
 }
 
 #[inline(never)]
 fn check<R: Runtime + AllocGlobal>(rt: &R) -> Result<(), Failure> {
-    script_run::check(rt.alloc(), &mut rt.reader(), io::writer(rt))?;
+    let Ok(mut writer) = BufWriter::new(rt.alloc(), io::writer(rt)) else {
+        return Err(Failure::from(Fault::Memory));
+    };
+    script_run::check(rt.alloc(), &mut rt.reader(), &mut writer)?;
     Ok(())
 }

@@ -1,7 +1,11 @@
+ghost use Rattle.std.specs.Prelude.{◌≡◌, false, true, IfErr, IfSome, OnOk, ⊤};
+ghost use Rattle.std.specs.Str.Lines.{lines};
+ghost use Rattle.script_run.specs.Telling.{IsCarriedOut};
+
 use crate::line_reporter::{LineForm, LineReporter};
 use program_io::{Fault, read_text};
 use std::alloc::Global;
-use std::io::{BufWriter, Read, Write};
+use std::io::{Read, Write};
 
 /// Carries out a script and writes each of its lines that is not accepted, with its number and the reason.
 ///
@@ -10,15 +14,12 @@ use std::io::{BufWriter, Read, Write};
 /// - `Write`: a line could not be written.
 /// - `Memory`: memory was refused outside a command.
 /// - `BadLines`: there were lines that are not accepted; each was told.
-pub fn check<R: Read, W: Write + Drop>(
-    alloc: Global,
-    reader: &mut R,
-    writer: W,
-) -> Result<(), Fault> {
+pub fn check<R: Read, W: Write>(alloc: Global, reader: &mut R, writer: &mut W) -> Result<(), Fault>
+    ensures clean { OnOk result (IfSome (R.remaining reader.old) (λ input. IsCarriedOut false (lines input) (λ s. ⊤))) }
+    ensures bad { result ≡ Err Fault.BadLines → IfSome (R.remaining reader.old) (λ input. IsCarriedOut true (lines input) (λ s. ⊤)) }
+{
     let text = read_text(alloc, reader)?;
-    let Ok(writer) = BufWriter::new(alloc, writer) else {
-        return Err(Fault::Memory);
-    };
-    let nothing: Vec<u8> = Vec::new(alloc);
-    LineReporter::new(LineForm::Reason, writer, None, nothing).report_lines(alloc, text.as_str())
+    let mut nothing: Vec<u8> = Vec::new(alloc);
+    let mut reporter = LineReporter::new(LineForm::Reason, writer, None, &mut nothing);
+    reporter.report_lines(alloc, text.as_str())
 }

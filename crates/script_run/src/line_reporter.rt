@@ -1,6 +1,9 @@
 //! A script that is carried out for what it does and not for its answers: the lines that are not accepted are told.
 
-ghost use Rattle.std.specs.Prelude.{IfErr};
+ghost use Rattle.std.specs.Prelude.{◌≡◌, ◌⊎◌, ◌<◌, false, true, IfErr, OnOk};
+ghost use Rattle.std.specs.Io.KnownBytes.{Appends, Keeps};
+ghost use Rattle.std.specs.Str.Lines.{lines};
+ghost use Rattle.script_run.specs.Telling.{IsCarriedOut, asked_log, counted};
 
 use crate::answer_sink::AnswerSink;
 use crate::bench::Bench;
@@ -37,21 +40,25 @@ pub(crate) struct LineReporter<'a, E, W> {
     /// Why the line is not accepted; none where it is.
     refusal: Option<Refusal>,
     /// Where lines are told.
-    errors: E,
+    errors: &'a mut E,
     /// How the wire is written.
     wire: Option<Wire<'a>>,
     /// Where the wire is written.
-    writer: W,
+    writer: &'a mut W,
 }
 
 impl<'a, E: Write, W: Write> LineReporter<'a, E, W> {
     /// One that has told nothing.
     pub(crate) fn new(
         form: LineForm,
-        errors: E,
+        errors: &'a mut E,
         wire: Option<Wire<'a>>,
-        writer: W,
-    ) -> LineReporter<'a, E, W> {
+        writer: &'a mut W,
+    ) -> LineReporter<'a, E, W>
+        ensures lent { (result.errors.ghost_name ≡ errors.entry.ghost_name) × (result.writer.ghost_name ≡ writer.entry.ghost_name) }
+        ensures same { (result.errors.now ≡ errors.old) × (result.writer.now ≡ writer.old) }
+        ensures fresh { (result.bad ≡ 0) × (result.wire ≡ wire.entry) }
+    {
         LineReporter {
             form,
             number: 0,
@@ -66,8 +73,15 @@ impl<'a, E: Write, W: Write> LineReporter<'a, E, W> {
 
     /// Carries the lines of a text out, writes what is left, and says whether lines were bad. A command to which memory was refused
     /// ends the run: that says nothing of its line, and the lines behind it can't be judged.
-    pub(crate) fn report_lines(&mut self, alloc: Global, text: &str) -> Result<(), Fault> {
-        let ended = answer_lines(alloc, text, self);
+    pub(crate) fn report_lines(&mut self, alloc: Global, text: &str) -> Result<(), Fault>
+        ensures lent { OnOk result (self.new.writer.ghost_name ≡ self.old.writer.ghost_name) }
+        ensures lent_bad { IfErr result (λ f. f ≡ Fault.BadLines → self.new.writer.ghost_name ≡ self.old.writer.ghost_name) }
+        ensures clean { self.old.bad ≡ 0 → OnOk result (IsCarriedOut false (lines text.now) (λ s. Appends (W.contents self.old.writer.now)
+            (W.contents self.new.writer.now) (asked_log self.old.wire s))) }
+        ensures bad { self.old.bad ≡ 0 → IfErr result (λ f. f ≡ Fault.BadLines → IsCarriedOut true (lines text.now)
+            (λ s. Appends (W.contents self.old.writer.now) (W.contents self.new.writer.now) (asked_log self.old.wire s))) }
+    {
+        let ended = self.carry_lines(alloc, text);
         if self.flush().is_err() {
             return Err(Fault::Write);
         }
@@ -78,21 +92,40 @@ impl<'a, E: Write, W: Write> LineReporter<'a, E, W> {
         Ok(())
     }
 
+    /// Carries the lines of a text out.
+    fn carry_lines(&mut self, alloc: Global, text: &str) -> Result<(), Fault>
+        ensures ends { IfErr result (λ f. (f ≡ Fault.Write) ⊎ (f ≡ Fault.Memory)) }
+        ensures lent { OnOk result (self.new.writer.ghost_name ≡ self.old.writer.ghost_name) }
+        ensures clean { OnOk result (self.old.bad ≡ 0 → self.new.bad ≡ 0 → IsCarriedOut false (lines text.now)
+            (λ s. Appends (W.contents self.old.writer.now) (W.contents self.new.writer.now) (asked_log self.old.wire s))) }
+        ensures bad { OnOk result (self.old.bad ≡ 0 → 0 < self.new.bad → IsCarriedOut true (lines text.now)
+            (λ s. Appends (W.contents self.old.writer.now) (W.contents self.new.writer.now) (asked_log self.old.wire s))) }
+    {
+        answer_lines(alloc, text, self)
+    }
+
     /// Has both writers write what they hold.
-    fn flush(&mut self) -> io::Result<()> {
+    fn flush(&mut self) -> io::Result<()>
+        ensures lent { OnOk result (self.new.writer.ghost_name ≡ self.old.writer.ghost_name) }
+        ensures same { OnOk result ((self.new.bad ≡ self.old.bad) × Keeps (W.contents self.old.writer.now) (W.contents self.new.writer.now)) }
+    {
         self.errors.flush()?;
         self.writer.flush()
     }
 
     /// Tells why a line is not accepted.
-    fn tell(&mut self, line: &str, has_garage: bool, refusal: Refusal) -> io::Result<()> {
+    fn tell(&mut self, line: &str, has_garage: bool, refusal: Refusal) -> io::Result<()>
+        ensures lent { self.new.errors.ghost_name ≡ self.old.errors.ghost_name }
+        ensures same { (self.new.wire ≡ self.old.wire) × (self.new.writer ≡ self.old.writer) }
+        ensures bad { self.new.bad ≡ counted self.old.bad }
+    {
         self.bad = self.bad.saturating_add(1);
         let number = self.number;
         match self.form {
             LineForm::Answer => writeln!(self.errors, "line {number}: {refusal}"),
             LineForm::Reason => {
                 write!(self.errors, "{number}: ")?;
-                write_reason(&mut self.errors, line, refusal, has_garage, self.seats)
+                write_reason(self.errors, line, refusal, has_garage, self.seats)
             }
         }
     }
@@ -100,13 +133,20 @@ impl<'a, E: Write, W: Write> LineReporter<'a, E, W> {
 
 /// What a station shows, and its report, are passed over.
 impl<E: Write, W: Write> AnswerSink for LineReporter<'_, E, W> {
-    ghost use Rattle.std.specs.Prelude.{◌≡◌, ◌⊎◌, Err, None, IfErr, IfSome, IsErr, IsSomeAnd};
+    ghost use Rattle.std.specs.Prelude.{◌≡◌, ◌⊎◌, Err, None, Some, IfErr, IfSome, IsErr, IsSomeAnd};
+    ghost use Rattle.std.specs.Io.KnownBytes.{Appends};
     ghost use Rattle.program_io.specs.declared.fault.Fault.TheVariants as fault;
     ghost use Rattle.script_answer.specs.Wants.{WantsMemory};
+    ghost use Rattle.script_run.specs.Telling.{asked_log, counted_if, refusal_told};
 
-    ghost told = { λ r. None };
+    ghost begins = { λ a b. (b.bad ≡ a.bad) × (b.refusal ≡ None) × (b.wire ≡ a.wire) × (b.writer ≡ a.writer) };
 
-    ghost lent = { λ r. 0 };
+    ghost takes = { λ a told b. (b.bad ≡ a.bad) × (b.refusal ≡ refusal_told told) × (b.wire ≡ a.wire) × (b.writer ≡ a.writer) };
+
+    ghost ends = { λ _ _ a b. (b.bad ≡ counted_if a.refusal a.bad) × (b.wire ≡ a.wire) × (b.writer ≡ a.writer) };
+
+    ghost closes = { λ g a b. (b.bad ≡ a.bad) × (b.wire ≡ a.wire) × (b.writer.ghost_name ≡ a.writer.ghost_name)
+        × Appends (W.contents a.writer.now) (W.contents b.writer.now) (asked_log a.wire (Some g)) };
 
     ghost ends_by = { λ f. (f ≡ fault.Write) ⊎ (f ≡ fault.Memory) };
 
@@ -125,10 +165,12 @@ impl<E: Write, W: Write> AnswerSink for LineReporter<'_, E, W> {
     }
 
     fn shown(&mut self, _entries: &[Shown]) -> Result<(), Unwritten> {
+        self.refusal = None;
         Ok(())
     }
 
     fn report(&mut self, _snapshot: &Snapshot) -> Result<(), Unwritten> {
+        self.refusal = None;
         Ok(())
     }
 
@@ -139,6 +181,8 @@ impl<E: Write, W: Write> AnswerSink for LineReporter<'_, E, W> {
         answered: Result<(), Unwritten>,
     ) -> Result<(), Fault>
         ensures ends { IfErr result (λ f. (f ≡ Fault.Write) ⊎ (f ≡ Fault.Memory)) }
+        ensures ended { OnOk result ((self.new.bad ≡ counted_if self.old.refusal self.old.bad) × (self.new.wire ≡ self.old.wire)
+            × (self.new.writer ≡ self.old.writer)) }
         ensures unanswered { IsErr answered → IsErr result }
         ensures memory { IfSome self.old.refusal (λ refusal. WantsMemory refusal → result ≡ Err Fault.Memory) }
         ensures judged { result ≡ Err Fault.Memory → IsSomeAnd self.old.refusal WantsMemory }
@@ -157,7 +201,7 @@ impl<E: Write, W: Write> AnswerSink for LineReporter<'_, E, W> {
 
     fn finish(&mut self, bench: &Bench) -> Result<(), Fault> {
         match self.wire {
-            Some(wire) => wire.write(bench, &mut self.writer),
+            Some(wire) => wire.write(bench, self.writer),
             None => Ok(()),
         }
     }

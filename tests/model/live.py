@@ -498,7 +498,7 @@ class LiveUnit(Lanes, Unit):
     def times(self):
         """The times at which something may change by itself."""
         seconds = [time + DM1_PERIOD for _, time in self.changes_told] + ([] if self.lamps_changed is None else [self.lamps_changed + DM1_PERIOD])
-        return [self.claim_at, self.settled_at, self.packet_at, self.alone_at, self.dm1_at, self.own_alone_at, self.telling_at] + seconds + [it.at for it in self.cyclic + self.repeated] + [at for at, _ in self.late] + [time for it in self.faults for time in it.times()]
+        return [self.claim_at, self.settled_at, self.packet_at, self.alone_at, self.dm1_at, self.own_alone_at, self.telling_at] + seconds + [it.at for it in [*self.cyclic, *self.repeated]] + [at for at, _ in self.late] + [time for it in self.faults for time in it.times()]
 
 
 class Playback:

@@ -39,10 +39,11 @@ def orders():
                     it.join()
                 same("orders of several threads", [it.finding for it in answers], [Finding.ANSWERED] * 3)
                 same("it is there", (tester.address, tester.unheard, tester.error, brakes.error), (249, 0, None, None))
+                engine.close()  # (it is silent from now on)
                 late = []
-                waiting = threading.Thread(target=lambda: late.append(tester.ask(0xA1, DM1)))
+                waiting = threading.Thread(target=lambda: late.append(tester.ask(ENGINE, DM1)))
                 waiting.start()
-                while not tester.is_open:
+                while not tester.is_open and waiting.is_alive():
                     time.sleep(0.001)
             waiting.join()
             same("closed meanwhile", late[0].finding, Finding.CUT_OFF)

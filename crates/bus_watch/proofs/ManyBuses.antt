@@ -7,21 +7,21 @@ use Rattle.std.proofs.lemmas.Option.{slice_get_past}
 use Rattle.bus_watch.specs.Hearing.{AreChanged, AreTold, BeginsOne, BusesValue, HasBegun, HaveHeard, IsChangedOrNot, IsOver, IsTold, MayBeTold, MayHaveHeard, beginning_as, hearers_of, is_hearer}
 use Rattle.bus_watch.specs.Over.{HasOwnersAlone}
 use Rattle.bus_watch.specs.Told.{Beginning, IsToldAs, Read, StandsForAll, Told}
-use Rattle.bus_watch.specs.Vins.{no_vins, vins_anew}
-use Rattle.bus_watch.specs.VinsSaid.{VinsGoOn}
+use Rattle.bus_watch.specs.Identified.{none_identified, identified_anew}
+use Rattle.bus_watch.specs.IdentifiedSaid.{IdentifiedGoesOn}
 use Rattle.candump_line.specs.declared.line.Line.{Line}
 use Rattle.bus_watch.specs.declared.buses.BusWatch.{BusWatch}
 
 pub one_begun : (old new : BusesValue) (followed name : Option (List ℕ)) (one : BusWatch) → option_map string_bytes one.bus ≡ name
-    → StandsForAll (beginning_as old.settings followed) [] one.watch → one.watch.vins ≡ no_vins → new ≡ record old { watches = old.watches ++ one ∷ [] } → BeginsOne followed name old new
-one_begun old new followed name one named stands vins more = record { one = one; is = record { name = named; stands = stands; vins = vins }; begun = more }
+    → StandsForAll (beginning_as old.settings followed) [] one.watch → one.watch.identified ≡ none_identified → new ≡ record old { watches = old.watches ++ one ∷ [] } → BeginsOne followed name old new
+one_begun old new followed name one named stands identified more = record { one = one; is = record { name = named; stands = stands; identified = identified }; begun = more }
 
 pub is_told : (next : Told) (old new : BusWatch) → new.bus ≡ old.bus → ((b : Beginning) (ts : List Told) → StandsForAll b ts old.watch → StandsForAll b (next ∷ ts) new.watch)
-    → VinsGoOn next old.watch new.watch → IsToldAs next old.watch new.watch new.changes → IsTold next old new
-is_told next old new bus stands vins changes = record { bus = bus; stands = stands; vins = vins; changes = changes }
+    → IdentifiedGoesOn next old.watch new.watch → IsToldAs next old.watch new.watch new.changes → IsTold next old new
+is_told next old new bus stands identified changes = record { bus = bus; stands = stands; identified = identified; changes = changes }
 
-pub is_over : (old new : BusWatch) → new.bus ≡ old.bus → HasOwnersAlone old.watch new.watch → new.watch.vins ≡ vins_anew old.watch.vins → new.changes ≡ old.changes → IsOver old new
-is_over old new bus anew vins changes = record { bus = bus; anew = anew; vins = vins; changes = changes }
+pub is_over : (old new : BusWatch) → new.bus ≡ old.bus → HasOwnersAlone old.watch new.watch → new.watch.identified ≡ identified_anew old.watch.identified → new.changes ≡ old.changes → IsOver old new
+is_over old new bus anew identified changes = record { bus = bus; anew = anew; identified = identified; changes = changes }
 
 module _ (Changes : BusWatch → BusWatch → Type 0) where
   -- none changed

@@ -30,7 +30,7 @@ use Rattle.bus_watch.specs.Runs.{none_listed, readings_in}
 use Rattle.bus_watch.specs.Tellings.{none_told}
 use Rattle.bus_watch.specs.Told.{Addressless, Assumed, Beginning, StandsForAll, Told, all_said, gaps_before, readings_said}
 use Rattle.bus_watch.specs.WatchValue.{CountsBefore, WatchValue, missed_by, partly_heard, unread_by}
-use Rattle.bus_watch.specs.Vins.{VinsValue, no_vins}
+use Rattle.bus_watch.specs.Identified.{none_identified}
 use Rattle.bus_watch.specs.declared.selection.Selection.{Selection}
 use Rattle.bus_watch.specs.declared.watch.WatchSettings.{WatchSettings}
 use Rattle.bus_watch.proofs.Steps.{none_partly, opened}
@@ -84,7 +84,7 @@ pub none_yet_of : (old made new : WatchValue) (gaps : ℕ) (settings : WatchSett
   partly = 0;
   broken = 0;
   pairs = 0;
-  vins = no_vins;
+  identified = none_identified;
 } → gaps ≡ old.listener.gaps → settings.selection ≡ old.lists.selection → settings.skips_bad ≡ old.followed.skips_bad → settings.silence ≡ old.followed.silence → bus ≡ old.followed.bus
     → new.listener ≡ made.listener → new.lists ≡ record made.lists { contests = old.lists.contests } → new.told ≡ made.told → new.followed ≡ made.followed
     → new.before ≡ record { missed = missed_by old; unread = unread_by old } → new.partly ≡ old.partly → new.broken ≡ old.broken → new.pairs ≡ made.pairs → HasOwnersBelow old 0 new

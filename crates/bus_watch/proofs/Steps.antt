@@ -17,7 +17,7 @@ use Rattle.bus_watch.specs.Tellings.{is_news, none_told, told_heard, told_of}
 use Rattle.bus_watch.specs.declared.change.Changes.{Changes}
 use Rattle.bus_watch.specs.Told.{Addressless, Assumed, Beginning, IsToldAs, Read, StandsForAll, Told, all_said, gaps_before, nothing_said, readings_said}
 use Rattle.bus_watch.specs.Runs.{ListsValue, contests_heard, entries_came, entries_in, kept_heard, lists_shown, newest_time, none_listed, readings_in, runs_by, runs_under, units_in, units_shown, with_moment}
-use Rattle.bus_watch.specs.Vins.{no_vins}
+use Rattle.bus_watch.specs.Identified.{none_identified}
 use Rattle.bus_watch.specs.declared.selection.Selection.{Selection}
 use Rattle.bus_watch.specs.WatchValue.{HearsLine, TellsLine, StandsInRuns, Takes, Tells, WatchValue, announcements_in, partly_heard}
 
@@ -90,7 +90,7 @@ pub opened_so : (b : Beginning) (w : WatchValue) → HasOverheard w.listener (ga
   partly = b.partly;
   broken = 0;
   pairs = 0;
-  vins = no_vins;
+  identified = none_identified;
 } → StandsForAll b [] w
 opened_so b w st is = opened b w st (ap (λ (v : WatchValue). v.lists) is) (ap (λ (v : WatchValue). v.told) is) (ap (λ (v : WatchValue). v.followed) is)
     (ap (λ (v : WatchValue). v.before) is) (ap (λ (v : WatchValue). v.partly) is) (ap (λ (v : WatchValue). v.pairs) is)
@@ -104,7 +104,7 @@ pub opened_if_ok : {E : Type 0} (result : Result WatchValue E) (b : Beginning) �
   partly = b.partly;
   broken = 0;
   pairs = 0;
-  vins = no_vins;
+  identified = none_identified;
 }) → IfOk result (λ w. StandsForAll b [] w)
 opened_if_ok (Ok w) b st is = opened_so b w st is
 opened_if_ok (Err e) b st is = tt

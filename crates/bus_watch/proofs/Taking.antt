@@ -31,7 +31,7 @@ use Rattle.bus_watch.specs.Runs.{Came, HasRuns, ListsValue, Moment, came_at, con
 use Rattle.bus_watch.specs.Tellings.{is_news, is_told, news_by, nothing_told, told_after, told_heard, told_of}
 use Rattle.bus_watch.specs.WatchValue.{Beginning, CountsBefore, StandsInRuns, Takes, Tells, WatchValue, announcements_by, announcements_in, noted_in, partly_heard}
 use Rattle.bus_watch.specs.declared.change.Changes.{Changes}
-use Rattle.bus_watch.specs.Vins.{VinsValue}
+use Rattle.bus_watch.specs.Identified.{IdentifiedValue}
 use Rattle.bus_watch.specs.declared.selection.Selection.{Selection}
 
 -- lists at the time of a line, if it has one
@@ -276,8 +276,8 @@ tells_frame start old new t mid after f g time c known pairs entry told same at 
     (subst (λ (l : ListsValue). HasTaken HasRuns l entry after) at put) e told_is))
 
 -- what is noted once a pair was
-module _ (l : ListenerValue) (lists : ListsValue) (f : Followed) (told : List Bool) (before : CountsBefore) (partly broken : ℕ) (vins : VinsValue) (mid : WatchValue) (c : Overheard)
-    (same : mid ≡ record { listener = l; lists = lists; followed = f; told = told; before = before; partly = partly; broken = broken; pairs = mid.pairs; vins = vins }) where
+module _ (l : ListenerValue) (lists : ListsValue) (f : Followed) (told : List Bool) (before : CountsBefore) (partly broken : ℕ) (identified : IdentifiedValue) (mid : WatchValue) (c : Overheard)
+    (same : mid ≡ record { listener = l; lists = lists; followed = f; told = told; before = before; partly = partly; broken = broken; pairs = mid.pairs; identified = identified }) where
   pub pair_noted : (new : WatchValue)
       → new ≡ record mid { lists = noted_in c mid.lists; told = told_after (is_told mid.lists.selection mid.lists.time c) c mid.told; partly = partly_after c mid.partly }
       → new ≡ record {
@@ -289,7 +289,7 @@ module _ (l : ListenerValue) (lists : ListsValue) (f : Followed) (told : List Bo
         partly = partly_after c partly;
         broken = broken;
         pairs = mid.pairs;
-        vins = vins;
+        identified = identified;
       }
   pair_noted new is =
       is ∙ ap (λ (v : WatchValue). record v { lists = noted_in c v.lists; told = told_after (is_told v.lists.selection v.lists.time c) c v.told; partly = partly_after c v.partly }) same

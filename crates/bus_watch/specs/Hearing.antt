@@ -17,8 +17,8 @@ use Rattle.bus_watch.specs.declared.watch.WatchSettings.{WatchSettings}
 use Rattle.bus_watch.specs.Contested.{no_contests}
 use Rattle.bus_watch.specs.Over.{HasOwnersAlone}
 use Rattle.bus_watch.specs.Told.{Beginning, IsToldAs, Read, StandsForAll, Told}
-use Rattle.bus_watch.specs.Vins.{no_vins, vins_anew}
-use Rattle.bus_watch.specs.VinsSaid.{VinsGoOn}
+use Rattle.bus_watch.specs.Identified.{none_identified, identified_anew}
+use Rattle.bus_watch.specs.IdentifiedSaid.{IdentifiedGoesOn}
 
 -- how each is watched, whether each bus is, and the watches in the order in which their buses were first named
 pub record BusesValue : Type 0 where
@@ -77,7 +77,7 @@ beginning_as s followed = record { selection = s.selection; skips_bad = s.skips_
 pub record IsNew (s : WatchSettings) (followed named : Option (List ℕ)) (one : BusWatch) : Type 0 where
   pub name : option_map string_bytes one.bus ≡ named
   pub stands : StandsForAll (beginning_as s followed) [] one.watch
-  pub vins : one.watch.vins ≡ no_vins
+  pub identified : one.watch.identified ≡ none_identified
 
 -- it stands behind the others
 pub record BeginsOne (followed named : Option (List ℕ)) (old new : BusesValue) : Type 0 where
@@ -126,14 +126,14 @@ is_hearer Every place = true
 pub record IsTold (next : Told) (old new : BusWatch) : Type 0 where
   pub bus : new.bus ≡ old.bus
   pub stands : (b : Beginning) (ts : List Told) → StandsForAll b ts old.watch → StandsForAll b (next ∷ ts) new.watch
-  pub vins : VinsGoOn next old.watch new.watch
+  pub identified : IdentifiedGoesOn next old.watch new.watch
   pub changes : IsToldAs next old.watch new.watch new.changes
 
--- or was begun anew, with the owners of addresses and the VINs alone
+-- or was begun anew, with the owners of addresses and the identifications alone
 pub record IsOver (old new : BusWatch) : Type 0 where
   pub bus : new.bus ≡ old.bus
   pub anew : HasOwnersAlone old.watch new.watch
-  pub vins : new.watch.vins ≡ vins_anew old.watch.vins
+  pub identified : new.watch.identified ≡ identified_anew old.watch.identified
   pub changes : new.changes ≡ old.changes
 
 -- it changed so, or is as it was

@@ -10,5 +10,5 @@ pub mod Counted
 pub mod Hearing
 pub mod Methods
 pub mod Held
-pub mod Vins
-pub mod VinsSaid
+pub mod Identified
+pub mod IdentifiedSaid

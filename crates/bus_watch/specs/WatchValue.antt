@@ -21,7 +21,7 @@ use Rattle.bus_watch.specs.Counted.{partly_after}
 use Rattle.bus_watch.specs.Followed.{Followed, followed_after, followed_with, frame_reading, reading_by, time_by}
 use Rattle.bus_watch.specs.Runs.{ListsValue, Moment, entries_in, lists_shown, contests_heard, entries_came, kept_heard, newest_time, readings_in, runs_by, runs_under, units_in, units_shown, with_moment}
 use Rattle.bus_watch.specs.Tellings.{is_news, told_heard, told_of}
-use Rattle.bus_watch.specs.Vins.{VinsValue, vins_read}
+use Rattle.bus_watch.specs.Identified.{IdentifiedValue, identified_read}
 use Rattle.bus_watch.specs.declared.change.Changes.{Changes}
 use Rattle.bus_watch.specs.declared.selection.Selection.{Selection}
 
@@ -30,7 +30,7 @@ pub record CountsBefore : Type 0 where
   pub missed : ℕ
   pub unread : ℕ
 
--- those; the messages that were read in part; those that were broken; between how many pairs of addresses messages were announced; and the VINs
+-- those; the messages that were read in part; those that were broken; between how many pairs of addresses messages were announced; and the identifications
 pub record WatchValue : Type 0 where
   pub listener : ListenerValue
   pub lists : ListsValue
@@ -40,7 +40,7 @@ pub record WatchValue : Type 0 where
   pub partly : ℕ
   pub broken : ℕ
   pub pairs : ℕ
-  pub vins : VinsValue
+  pub identified : IdentifiedValue
 
 -- its listener as it looks at times
 abbrev pub ear_of : WatchValue → PacedValue
@@ -149,6 +149,6 @@ HearsLine old new line = Takes old new (reading_by (half_in old.listener) old.fo
 abbrev pub TellsLine : WatchValue → WatchValue → Line → Changes → Type 0
 TellsLine old new line told = Tells old new (reading_by (half_in old.listener) old.followed line) told
 
--- the VINs after a line
-abbrev pub vins_in : WatchValue → Line → VinsValue
-vins_in w line = vins_read w.lists.selection w.lists.time w.followed (who_in w.listener) line w.vins
+-- the identifications after a line
+abbrev pub identified_in : WatchValue → Line → IdentifiedValue
+identified_in w line = identified_read w.lists.selection w.lists.time w.followed (who_in w.listener) line w.identified

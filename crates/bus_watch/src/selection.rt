@@ -1,7 +1,7 @@
 ghost use Rattle.std.specs.Prelude.{◌≡◌};
 ghost use Rattle.bus_watch.specs.Runs as runs;
 ghost use Rattle.bus_watch.specs.Tellings as tellings;
-ghost use Rattle.bus_watch.specs.Vins.{is_vin_shown};
+ghost use Rattle.bus_watch.specs.Identified.{is_text_shown};
 
 use crate::broken::BrokenMessage;
 use crate::methods::UnitMethods;
@@ -47,9 +47,9 @@ impl Selection {
             && self.shows_at(time)
     }
 
-    /// Whether a VIN of this unit is shown that went from this source to this address, and came at this time: where an entry would be.
-    pub(crate) fn shows_vin(&self, who: &Who, source: u8, to: u8, time: Option<Time>) -> bool
-        ensures { result ≡ is_vin_shown self.now time who.now source to }
+    /// Whether an identification of this unit is shown that went from this source to this address, and came at this time: where an entry would be.
+    pub(crate) fn shows_text(&self, who: &Who, source: u8, to: u8, time: Option<Time>) -> bool
+        ensures { result ≡ is_text_shown self.now time who.now source to }
     {
         self.shows_of(who)
             && self.shows_to(to)

@@ -6,7 +6,7 @@ ghost use Rattle.bus_watch.specs.Runs.{entries_came, kept_heard, lists_shown, ne
 ghost use Rattle.bus_watch.specs.Tellings.{none_told};
 ghost use Rattle.bus_watch.specs.WatchValue.{announcements_in};
 ghost use Rattle.bus_watch.specs.Told.{Beginning, StandsForAll, Told, all_said, readings_said};
-ghost use Rattle.bus_watch.specs.Vins.{no_vins};
+ghost use Rattle.bus_watch.specs.Identified.{none_identified};
 ghost use Rattle.entry_lists.specs.KnownRows.{row_heard_as};
 ghost use Rattle.listener.specs.ListenerSteps.{new_listener};
 ghost use Rattle.listener.specs.ListenerValue.{HasOverheard, gaps_alone};
@@ -15,12 +15,12 @@ ghost use Rattle.reassembly.specs.Pairs.{no_pairs};
 use self::over::Before;
 use crate::broken::{Broken, BrokenMessage};
 use crate::counts::WatchCounts;
+use crate::identified::Identified;
 use crate::lists::WatchLists;
 use crate::pairs::Pairs;
 use crate::run::EntryRun;
 use crate::selection::Selection;
 use crate::unowned::Unowned;
-use crate::vins::Vins;
 use candump_line::Time;
 use dm_messages::Kind;
 use entry_lists::Row;
@@ -30,10 +30,10 @@ use std::alloc::{AllocError, Global};
 use std::marker::Model;
 
 mod changes;
+mod identified;
 mod over;
 mod parts;
 mod readings;
-mod vins;
 
 /// How a bus is watched.
 #[derive(Clone, Copy)]
@@ -58,10 +58,10 @@ pub struct Watch {
     pairs: Pairs,
     broken: Broken,
     before: Before,
-    vins: Vins,
+    identified: Identified,
 }
 
-/// Seen as its listener, the lists that it fills, what it knows of the bus that it follows, what it told once, what it counts, and the VINs.
+/// Seen as its listener, the lists that it fills, what it knows of the bus that it follows, what it told once, what it counts, and the identifications.
 impl Model for Watch {
     ghost use Rattle.std.specs.Prelude.{option_map, string_bytes};
     ghost use Rattle.bus_watch.specs.WatchValue.{WatchValue};
@@ -82,7 +82,7 @@ impl Model for Watch {
       partly = w.counts.partly;
       broken = w.broken.messages.count;
       pairs = w.pairs.count;
-      vins = w.vins;
+      identified = w.identified;
     } };
 }
 
@@ -107,7 +107,7 @@ impl Watch {
         Watch::open(alloc, settings, bus)
     }
 
-    /// The same, which has read no VIN either.
+    /// The same, which has read no identification either.
     #[tactic(auto, using(crate::proofs::Steps::opened))]
     pub(crate) fn open(
         alloc: Global,
@@ -124,7 +124,7 @@ impl Watch {
           before = record { missed = 0; unread = 0 };
           partly = 0;
         }) [] w) }
-        ensures vins { IfOk result (λ w. w.vins ≡ no_vins) }
+        ensures identified { IfOk result (λ w. w.identified ≡ none_identified) }
     {
         Watch::after_gaps(alloc, settings, bus, 0)
     }
@@ -145,7 +145,7 @@ impl Watch {
           partly = 0;
           broken = 0;
           pairs = 0;
-          vins = no_vins;
+          identified = none_identified;
         }) }
         ensures heard { IfOk result (λ w. HasOverheard w.listener (gaps_alone gaps)) }
     {
@@ -155,7 +155,7 @@ impl Watch {
         };
         let pairs = Pairs::new(alloc)?;
         let ear = PacedListener::after_gaps(alloc, settings.silence, gaps)?;
-        let vins = Vins::new(alloc)?;
+        let identified = Identified::new(alloc)?;
         Ok(Watch {
             settings,
             ear,
@@ -166,7 +166,7 @@ impl Watch {
             pairs,
             broken: Broken::new(alloc, 0),
             before: Before::default(),
-            vins,
+            identified,
         })
     }
 

@@ -6,7 +6,7 @@ use candump_line::Line;
 use log_lines::LogFault;
 use std::alloc::Global;
 use std::io::Write;
-use watch_reports::{Assumed, ReportOptions, write_broken, write_changes, write_vin};
+use watch_reports::{Assumed, ReportOptions, write_broken, write_changes, write_identification};
 
 /// Has the watches hear the line of this number, and writes what that changes. Where it is the first of its bus, the assumed owners
 /// come before it.
@@ -82,7 +82,7 @@ fn has_news(one: &BusWatch) -> bool {
     one.changes.lost.is_some()
         || one.changes.change.is_some()
         || !one.watch.broken().is_empty()
-        || one.watch.vin_told().is_some()
+        || one.watch.told_anew().is_some()
 }
 
 /// Writes and keeps what the line of this number changed of a bus.
@@ -99,8 +99,8 @@ fn tell<W: Write>(
     if !one.watch.broken().is_empty() {
         write_broken(writer, one, options, kept.start(), number)?;
     }
-    if one.watch.vin_told().is_some() {
-        write_vin(writer, one, options, kept.start(), number)?;
+    if one.watch.told_anew().is_some() {
+        write_identification(writer, one, options, kept.start(), number)?;
     }
     if let Some(signals) = options.signals {
         mark_values(kept, signals, place, one)?;

@@ -109,9 +109,9 @@ fn write_bars<W: Write>(
     most: usize,
 ) {
     write_addresses(page, words, scale, lane, most / 4);
-    write_messages(page, words, scale, lane, Kind::Dm1, DM1, most / 2);
-    write_messages(page, words, scale, lane, Kind::Dm2, DM2, most / 8);
-    write_messages(page, words, scale, lane, Kind::Dm6, DM6, most / 8);
+    write_messages(page, words, scale, lane, Kind::Dm1, most / 2);
+    write_messages(page, words, scale, lane, Kind::Dm2, most / 8);
+    write_messages(page, words, scale, lane, Kind::Dm6, most / 8);
 }
 
 fn lane_begin() -> &'static str {
@@ -161,12 +161,20 @@ fn write_messages<W: Write>(
     scale: Scale,
     lane: &UnitLane,
     kind: Kind,
-    row: BarRow,
     most: usize,
 ) {
     match fitted(words.alloc, lane.messages(kind), most) {
-        Ok(track) => write_message_bars(page, words, scale, track.spans(), kind, row),
+        Ok(track) => write_message_bars(page, words, scale, track.spans(), kind),
         Err(_) => page.refuse_memory(),
+    }
+}
+
+/// Where the bars of a kind stand.
+fn row_of(kind: Kind) -> BarRow {
+    match kind {
+        Kind::Dm1 => DM1,
+        Kind::Dm2 => DM2,
+        Kind::Dm6 => DM6,
     }
 }
 
@@ -176,11 +184,10 @@ fn write_message_bars<W: Write>(
     scale: Scale,
     spans: &[Span],
     kind: Kind,
-    row: BarRow,
 ) {
     for span in spans {
         if page.has_room(ROOM) {
-            write_message_bar(page, words, scale, span, kind, row);
+            write_message_bar(page, words, scale, span, kind, row_of(kind));
         }
     }
 }

@@ -10,6 +10,7 @@ mod bars;
 mod changes;
 mod chips;
 mod ever_cell;
+mod identifications;
 mod labels;
 mod lanes;
 mod message_words;
@@ -23,7 +24,6 @@ mod style;
 mod table;
 mod values;
 mod view;
-mod vins;
 mod words;
 
 pub use page::write_page;

@@ -1,5 +1,6 @@
 use crate::changes::{write_changes, write_handovers};
 use crate::chips::write_chips;
+use crate::identifications::write_vins;
 use crate::lanes::write_lanes;
 use crate::moment::write_time;
 use crate::pieces::write_count;
@@ -9,7 +10,6 @@ use crate::style::style;
 use crate::table::write_table;
 use crate::values::write_values;
 use crate::view::View;
-use crate::vins::write_vins;
 use crate::words::PageWords;
 use bus_watch::BusWatch;
 use log_lines::{DurationWords, Fraction};

@@ -12,7 +12,7 @@ main{max-width:1180px;margin:0 auto;padding:16px}h1{font-size:1.4em;margin:0 0 4
 p{margin:4px 0}.text{unicode-bidi:isolate;overflow-wrap:anywhere}.quiet,.past{color:var(--quiet)}.past,.quiet,.doubt,.silent{font-size:.85em}.doubt,.silent{color:var(--doubt)}\
 ul.since{list-style:none;margin:0;padding:0}ul.since li{margin:2px 0}.chip{display:inline-block;min-width:76px;padding:1px 8px;border-radius:10px;font-size:.85em;font-weight:600;text-align:center}\
 .vin{font-size:1.05em}table.values td:first-child{min-width:11em}.then{font-size:.85em;margin:0 0 4px 12px}.curve{display:block;max-width:100%}.curve polyline{fill:none;stroke:var(--protect);stroke-width:1.5}\
-.name{font:12px monospace;color:var(--quiet);font-weight:400}.num{text-align:right;font-variant-numeric:tabular-nums;white-space:nowrap}\n\
+.name{font:12px monospace;color:var(--quiet);font-weight:400}.name.text{padding-left:1em;text-indent:-1em}.num{text-align:right;font-variant-numeric:tabular-nums;white-space:nowrap}\n\
 ul.chips{list-style:none;margin:0;padding:0}ul.chips li{display:inline-block;padding:4px 12px;border-radius:14px;margin:0 8px 8px 0;font-weight:600}\
 .bad,.red{background:var(--red);color:var(--onred);fill:var(--red)}.good,.fine{background:var(--fine);color:var(--onfine);fill:var(--fine)}\
 .amber{background:var(--amber);color:var(--onamber);fill:var(--amber)}.mil{background:var(--mil);color:var(--onmil);fill:var(--mil)}\

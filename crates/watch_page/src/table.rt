@@ -1,4 +1,5 @@
 use crate::ever_cell::write_ever;
+use crate::identifications::write_identifications;
 use crate::labels::{write_fields, write_identity, write_label};
 use crate::message_words::{
     LAMPS, flash_word, is_on, lamp_class, lamp_word, no_code_words, write_meaning, write_numbers,
@@ -9,7 +10,6 @@ use crate::pieces::{write_between, write_count};
 use crate::silence::write_silence;
 use crate::standing::{ALL_ORDERS, Listed, Presence, Standing};
 use crate::view::View;
-use crate::vins::write_vin;
 use crate::words::PageWords;
 use bus_watch::{EntryRun, Watch, Who};
 use candump_line::Time;
@@ -205,7 +205,7 @@ fn write_who<W: Write>(page: &mut Page<W>, view: &View<'_>, unit: &DrawnUnit) {
     page.markup("</div><div class=\"quiet\">");
     write_fields(page, view.alloc, unit);
     page.markup("</div>");
-    write_vin(page, view, unit);
+    write_identifications(page, view, unit);
     page.markup("</td>");
 }
 

@@ -70,11 +70,11 @@ pub(crate) fn places_of(watch: &Watch) -> usize {
     watch
         .names()
         .saturating_add(watch.units())
-        .saturating_add(watch.vins())
+        .saturating_add(watch.identifications())
 }
 
 /// The sender at this place: first all NAMEs, in the order of their first claims, then the addresses that nobody has claimed, those that
-/// told a VIN alone last. A place behind the NAMEs where the entry, or the VIN, was one of a NAME stays empty.
+/// told an identification alone last. A place behind the NAMEs where the entry, or the identification, was one of a NAME stays empty.
 pub(crate) fn sender_at(watch: &Watch, place: usize) -> Option<Sender> {
     let names = watch.names();
     if place < names {
@@ -95,7 +95,7 @@ fn unit_behind_names(watch: &Watch, place: usize) -> Option<Who> {
     if place < units {
         return watch.unit_at(place);
     }
-    let who = watch.vin_unit_at(place - units)?;
+    let who = watch.identified_unit_at(place - units)?;
     if has_entries(watch, &who) {
         None
     } else {

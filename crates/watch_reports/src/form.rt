@@ -1,6 +1,6 @@
 use crate::options::{ReportOptions, ReportPart, Reported};
 use crate::report_writer::ReportWriter;
-use crate::{broken, objects, report_object, rows, text, text_report, vins};
+use crate::{broken, identifications, objects, report_object, rows, text, text_report};
 use bus_watch::{BusWatch, Changes, WatchChange};
 use candump_line::Time;
 use log_lines::LogFault;
@@ -63,11 +63,11 @@ pub fn write_broken<W: Write>(
     report.end()
 }
 
-/// Writes the VIN that a unit told by the line of this number, where it had not told it before.
+/// Writes the identification that a unit told by the line of this number, where it had not told it before.
 ///
 /// # Errors
 /// - `Write`: a write failed; how much was written by then is not told.
-pub fn write_vin<W: Write>(
+pub fn write_identification<W: Write>(
     writer: &mut W,
     one: &BusWatch,
     options: &ReportOptions<'_>,
@@ -76,8 +76,8 @@ pub fn write_vin<W: Write>(
 ) -> Result<(), LogFault> {
     let mut report = ReportWriter::new(writer);
     match options.form {
-        WatchForm::Text => vins::write_line(&mut report, one, options, start),
-        WatchForm::Json => vins::write_object(&mut report, one, number),
+        WatchForm::Text => identifications::write_line(&mut report, one, options, start),
+        WatchForm::Json => identifications::write_object(&mut report, one, number),
         WatchForm::Csv | WatchForm::Html => {}
     }
     report.end()

@@ -3,6 +3,7 @@
 use crate::assumed::is_assumed_unit;
 use crate::broken::write_count_keys;
 use crate::ever_object::write_ever;
+use crate::identifications;
 use crate::object_parts::{
     write_bus, write_fields, write_shown, write_text, write_time, write_trouble, write_who,
 };
@@ -12,7 +13,6 @@ use crate::reported_bus::ReportedBus;
 use crate::since::write_objects as write_since;
 use crate::units::{KINDS, kind_word, row_at, row_places};
 use crate::value_objects::write_values;
-use crate::vins;
 use bus_watch::{BusWatch, EntryRun, WatchCounts, Who};
 use dm_messages::Kind;
 use picture::EverInLog;
@@ -94,7 +94,7 @@ fn write_rows<W: Write>(
             report.text(before);
             write_row(report, bus.one, options, who);
             write_ever(report, bus, options.texts, who);
-            vins::write_key(report, &bus.one.watch, who);
+            identifications::write_keys(report, &bus.one.watch, who);
             report.text("}");
             before = ",{";
         }
@@ -102,7 +102,7 @@ fn write_rows<W: Write>(
     before
 }
 
-/// A row but for what the unit told at any time, its VIN, and the end.
+/// A row but for what the unit told at any time and of itself, and the end.
 fn write_row<W: Write>(
     report: &mut ReportWriter<'_, W>,
     one: &BusWatch,

@@ -1,12 +1,12 @@
 //! The report as comma-separated values, written as it goes: nothing of it is held, and no memory is asked for.
 
 use crate::ever_rows::{EVER_HEADER, write_ever, write_no_ever};
+use crate::identifications::{self, IDENTIFICATION_HEADER};
 use crate::options::{ReportOptions, ReportPart, Reported};
 use crate::report_writer::ReportWriter;
 use crate::reported_bus::ReportedBus;
 use crate::units::{KINDS, WhoValue, address_of, has_entries, kind_word, row_at, row_places};
 use crate::value_rows::{VALUE_HEADER, write_no_value, write_value_rows};
-use crate::vins;
 use bus_watch::{BusWatch, EntryRun, Watch, Who};
 use can_frame::GLOBAL_ADDRESS;
 use candump_line::Time;
@@ -22,10 +22,17 @@ use trouble_code::Dtc;
 const HEADER: &str =
     "name,address,kind,first_time,last_time,entries,lamps,spn,fmi,count,contested,to";
 
+/// A run of equal entries of a kind.
+#[derive(Clone, Copy)]
+struct KindRun<'a> {
+    kind: Kind,
+    run: &'a EntryRun,
+}
+
 /// Writes the report: a row for each code of each run of equal entries, one without a code for a run without codes, and one
 /// without a kind for a unit without entries. Where each bus is watched, the bus follows; then come what the NAME says of the unit,
 /// the shop's texts for the unit and for the code, the NAME again, what the unit told at any time, what
-/// the FMI says, what of the entries is not read, and the unit's VIN; where values of signals are kept, those, and a row for each signal.
+/// the FMI says, what of the entries is not read, and what the unit tells of itself; where values of signals are kept, those, and a row for each signal.
 /// The names of the values stand before the first part.
 pub(crate) fn write_rows<W: Write>(
     report: &mut ReportWriter<'_, W>,
@@ -68,7 +75,8 @@ fn write_header<W: Write>(
     }
     report.text(",function,instance,manufacturer,identity,unit_text,code_text,name_hex");
     report.text(EVER_HEADER);
-    report.text(",fmi_text,not_read,vin");
+    report.text(",fmi_text,not_read");
+    report.text(IDENTIFICATION_HEADER);
     if options.signals.is_some() {
         report.text(VALUE_HEADER);
     }
@@ -127,7 +135,7 @@ fn write_without_kind<W: Write>(
     write_words(report, one, options, who, None);
     write_no_ever(report);
     report.text(",,");
-    vins::write_value(report, &one.watch, who);
+    identifications::write_values(report, &one.watch, who);
     write_end(report, options);
 }
 
@@ -140,7 +148,7 @@ fn write_runs<W: Write>(
     kind: Kind,
 ) {
     for run in bus.one.watch.runs(*who, kind) {
-        write_run(report, bus, options, who, kind, run);
+        write_run(report, bus, options, who, &KindRun { kind, run });
     }
 }
 
@@ -164,16 +172,15 @@ fn write_run<W: Write>(
     bus: &ReportedBus<'_>,
     options: &ReportOptions<'_>,
     who: &Who,
-    kind: Kind,
-    run: &EntryRun,
+    of: &KindRun<'_>,
 ) {
-    let codes = run.shown.codes.as_slice();
+    let codes = of.run.shown.codes.as_slice();
     if codes.is_empty() {
-        write_row(report, bus, options, who, kind, run, None);
+        write_row(report, bus, options, who, of, None);
         return;
     }
     for code in codes {
-        write_row(report, bus, options, who, kind, run, Some(code));
+        write_row(report, bus, options, who, of, Some(code));
     }
 }
 
@@ -182,10 +189,10 @@ fn write_row<W: Write>(
     bus: &ReportedBus<'_>,
     options: &ReportOptions<'_>,
     who: &Who,
-    kind: Kind,
-    run: &EntryRun,
+    of: &KindRun<'_>,
     code: Option<&Dtc>,
 ) {
+    let KindRun { kind, run } = *of;
     write_front(report, &bus.one.watch, who);
     write_values(report, kind, run);
     write_code(report, code);
@@ -194,7 +201,7 @@ fn write_row<W: Write>(
     write_ever(report, bus, who, kind, code);
     write_failure_mode(report, code);
     write_trouble(report, run);
-    vins::write_value(report, &bus.one.watch, who);
+    identifications::write_values(report, &bus.one.watch, who);
     write_end(report, options);
 }
 

@@ -29,7 +29,9 @@ pub(crate) fn write_change<W: Write>(
     match *change {
         WatchChange::Entry { who, kind } => write_entry(report, &one.watch, options, &who, kind),
         WatchChange::Unread { who, kind, to, why } => {
-            write_unread(report, &one.watch, options.units, &who, kind, to, why);
+            let unread = one.watch.unreadable_in_all();
+            write_unread(report, options.units, unread, &who, kind);
+            write_why(report, to, why);
         }
         other => write_of_unit(report, options.units, other),
     }
@@ -151,24 +153,15 @@ fn write_clock<W: Write>(
     write!(report, "{words}");
 }
 
-/// How many messages could not be read, whose the newest of them is, where it went, if not to all, and why.
-fn write_unread<W: Write>(
-    report: &mut ReportWriter<'_, W>,
-    watch: &Watch,
-    units: &UnitTexts,
-    who: &Who,
-    kind: Kind,
-    to: u8,
-    why: ReadError,
-) {
-    write_unread_of(report, units, watch.unreadable_in_all(), who, kind);
+/// Where a message went that could not be read, if not to all, and why.
+fn write_why<W: Write>(report: &mut ReportWriter<'_, W>, to: u8, why: ReadError) {
     write_destination(report, to);
     let why = UnreadWords(why);
     writeln!(report, ": {why}");
 }
 
 /// How many messages could not be read, and whose the newest of them is.
-fn write_unread_of<W: Write>(
+fn write_unread<W: Write>(
     report: &mut ReportWriter<'_, W>,
     units: &UnitTexts,
     unread: u64,

@@ -3,13 +3,13 @@
 use crate::assumed::is_assumed_unit;
 use crate::broken::write_count_line;
 use crate::ever_text::write_ever;
+use crate::identifications;
 use crate::options::{ReportOptions, ReportPart, Reported};
 use crate::report_writer::ReportWriter;
 use crate::reported_bus::ReportedBus;
 use crate::since::write_lines as write_since;
 use crate::units::{KINDS, PlainWho, address_of, address_words, row_at, row_places};
 use crate::value_lines::write_values;
-use crate::vins;
 use bus_watch::{BusWatch, EntryRun, Watch, WatchCounts, Who};
 use dm_messages::Kind;
 use dm_words::{LampBytes, LampWords};
@@ -93,6 +93,7 @@ fn write_told<W: Write>(
 ) {
     if bus.was_red(who) == red {
         write_row(report, bus.one, options, who);
+        identifications::write_below_row(report, bus.one, who);
         write_ever(report, bus, options, who);
     }
 }
@@ -194,7 +195,7 @@ fn write_words<W: Write>(
         let unit = options.units.words_of(name);
         write!(report, "; {unit}");
     }
-    vins::write_in_row(report, &one.watch, who);
+    identifications::write_in_row(report, &one.watch, who);
     report.text("\n");
 }
 

@@ -1,4 +1,4 @@
-use bus_watch::{UnitShown, Watch, Who};
+use bus_watch::{IDENTIFICATIONS, UnitShown, Watch, Who};
 use can_frame::GLOBAL_ADDRESS;
 use dm_messages::Kind;
 use frame_words::{AddressWords, Audience};
@@ -143,9 +143,19 @@ pub(crate) fn has_entries(watch: &Watch, who: &Who) -> bool {
     false
 }
 
-/// Whether a unit has an entry of some kind, or told its VIN.
+/// Whether a unit has an entry of some kind, or told an identification.
 fn has_told(watch: &Watch, who: &Who) -> bool {
-    has_entries(watch, who) || !watch.vin(*who).is_empty()
+    has_entries(watch, who) || has_identified(watch, who)
+}
+
+/// Whether a unit told an identification.
+fn has_identified(watch: &Watch, who: &Who) -> bool {
+    for what in IDENTIFICATIONS {
+        if !watch.identification(*who, what).is_empty() {
+            return true;
+        }
+    }
+    false
 }
 
 /// Whether the row of a unit is shown: it is the unit of which alone it is told, or has or had the address of which it is.
@@ -172,7 +182,7 @@ pub(crate) fn row_places(watch: &Watch) -> usize {
     watch
         .names()
         .saturating_add(watch.units())
-        .saturating_add(watch.vins())
+        .saturating_add(watch.identifications())
 }
 
 /// The unit whose row stands at this place, where that is shown.
@@ -186,8 +196,8 @@ pub(crate) fn row_at(watch: &Watch, place: usize) -> Option<Who> {
 }
 
 /// The unit of this place: first all NAMEs, in the order of their first claims, then the addresses that nobody has claimed, in the
-/// order of their first entries, and those that told a VIN alone. A place behind the NAMEs where the entry, or the VIN, was one of a NAME
-/// stays empty.
+/// order of their first entries, and those that told an identification alone. A place behind the NAMEs where the entry, or the
+/// identification, was one of a NAME stays empty.
 fn unit_at(watch: &Watch, place: usize) -> Option<Who> {
     let names = watch.names();
     if place < names {
@@ -205,7 +215,7 @@ fn unit_behind_names(watch: &Watch, place: usize) -> Option<Who> {
     if place < units {
         return watch.unit_at(place);
     }
-    let who = watch.vin_unit_at(place - units)?;
+    let who = watch.identified_unit_at(place - units)?;
     if has_entries(watch, &who) {
         None
     } else {

@@ -1,11 +1,11 @@
 //! The values of signals as rows of comma-separated values.
 
 use crate::ever_rows::write_no_ever;
+use crate::identifications;
 use crate::options::{ReportOptions, Reported};
 use crate::report_writer::ReportWriter;
 use crate::reported_bus::who_of;
 use crate::rows::{write_front, write_text, write_time, write_words};
-use crate::vins;
 use bus_watch::BusWatch;
 use picture::{SeriesKey, SignalSeries, ToldValue, value_of};
 use signal_values::Signal;
@@ -58,7 +58,7 @@ fn write_row<W: Write>(
     write_words(report, bus, options, &who, None);
     write_no_ever(report);
     report.text(",,");
-    vins::write_value(report, &bus.watch, &who);
+    identifications::write_values(report, &bus.watch, &who);
     write_signal(report, key, signal);
     write_range(report, signal, one);
     report.text("\n");

@@ -30,7 +30,7 @@ impl Watch {
         ensures takes { OnOk result (Takes self.old self.new reading time self.old.followed) }
         ensures tells { IfOk result (λ c. Tells self.old self.new reading c) }
         ensures broken { self.new.broken ≡ self.old.broken }
-        ensures vins { self.new.vins ≡ self.old.vins }
+        ensures identified { self.new.identified ≡ self.old.identified }
         ensures err { OnErr result (self.new ≡ self.old) }
     {
         let before = self.lists.now();
@@ -57,7 +57,7 @@ impl Watch {
             → Takes self.old self.new (frame_reading time (half_in self.old.listener) self.old.followed f) time (followed_with time (said group.now) self.old.followed)) }
         ensures tells { IfOk result (λ c. (f : FrameValue) → group_of f ≡ said group.now
             → Tells self.old self.new (frame_reading time (half_in self.old.listener) self.old.followed f) c) }
-        ensures vins { self.new.vins ≡ self.old.vins }
+        ensures identified { self.new.identified ≡ self.old.identified }
         ensures err { OnErr result (self.new ≡ self.old) }
     {
         let at = time;

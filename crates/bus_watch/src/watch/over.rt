@@ -3,7 +3,7 @@ ghost use Rattle.bus_model.specs.Heard.{counted, missed_count};
 ghost use Rattle.bus_model.specs.Overheard.{unread_overheard};
 ghost use Rattle.bus_watch.specs.Over.{HasOwnersAlone, HasOwnersBelow};
 ghost use Rattle.bus_watch.specs.Told.{Beginning, StandsForAll, Told, readings_said};
-ghost use Rattle.bus_watch.specs.Vins.{vins_anew};
+ghost use Rattle.bus_watch.specs.Identified.{identified_anew};
 ghost use Rattle.bus_watch.specs.WatchValue.{missed_by, unread_by};
 ghost use Rattle.can_frame.specs.declared.address.TheConstants.{GREATEST_ADDRESS};
 ghost use Rattle.listener.specs.ListenerSteps.{address_in_tables};
@@ -46,20 +46,20 @@ impl Watch {
     ///
     /// It stands then as a watch that began so, of which these owners were assumed, and that has heard nothing else. So what stands
     /// in it is still exactly what was heard, since then. What is half joined is let go too. Gaps are numbered on, counts go on, and each
-    /// unit's VIN stays.
+    /// unit's identification stays.
     ///
     /// # Errors
     /// Memory was refused. The watch is as it was.
     #[inline(never)]
-    #[tactic(auto, using(crate::proofs::VinsRead::over_aside))]
+    #[tactic(auto, using(crate::proofs::IdentifiedRead::over_aside))]
     pub fn start_over(&mut self, alloc: Global) -> Result<(), AllocError>
         ensures anew { OnOk result (HasOwnersAlone self.old self.new) }
-        ensures vins { OnOk result (self.new.vins ≡ vins_anew self.old.vins) }
+        ensures identified { OnOk result (self.new.identified ≡ identified_anew self.old.identified) }
         ensures err { OnErr result (self.new ≡ self.old) }
     {
         let mut fresh = self.with_owners(alloc)?;
-        std::mem::swap(&mut self.vins, &mut fresh.vins);
-        fresh.vins.start_over();
+        std::mem::swap(&mut self.identified, &mut fresh.identified);
+        fresh.identified.start_over();
         *self = fresh;
         Ok(())
     }

@@ -3,11 +3,11 @@ ghost use Rattle.address_claim.specs.Frames.{claim_frame_value};
 ghost use Rattle.bus_watch.specs.Followed as followed;
 ghost use Rattle.bus_watch.specs.Told.{Told, Beginning, IsToldAs, StandsForAll};
 ghost use Rattle.bus_watch.specs.Told as told;
-ghost use Rattle.bus_watch.specs.WatchValue.{HearsLine, TellsLine, Takes, Tells, vins_in};
+ghost use Rattle.bus_watch.specs.WatchValue.{HearsLine, TellsLine, Takes, Tells, identified_in};
 ghost use Rattle.can_frame.specs.FrameValue.{FrameValue};
 ghost use Rattle.can_frame.specs.declared.address.TheConstants.{GREATEST_ADDRESS};
-ghost use Rattle.bus_watch.specs.Vins.{coming, vins_with};
-ghost use Rattle.bus_watch.specs.VinsSaid.{VinsGoOn};
+ghost use Rattle.bus_watch.specs.Identified.{coming, identified_with};
+ghost use Rattle.bus_watch.specs.IdentifiedSaid.{IdentifiedGoesOn};
 ghost use Rattle.can_frame.specs.Fields.{source_of};
 ghost use Rattle.candump_line.specs.declared.line.Line.TheVariants as said;
 ghost use Rattle.listener.specs.ListenerValue.{who_in};
@@ -43,12 +43,12 @@ impl Watch {
         ensures told { IfOk result (λ c. IsToldAs (told.Read line.now) self.old self.new c) }
         ensures stands { OnOk result
             ((b : Beginning) (ts : List Told) → StandsForAll b ts self.old → StandsForAll b (told.Read line.now ∷ ts) self.new) }
-        ensures vins { OnOk result (VinsGoOn (told.Read line.now) self.old self.new) }
+        ensures identified { OnOk result (IdentifiedGoesOn (told.Read line.now) self.old self.new) }
         ensures err { OnErr result (self.new ≡ self.old) }
     {
         self.counts.lines = self.counts.lines.saturating_add(1);
         self.broken.clear();
-        self.vins.clear_told();
+        self.identified.clear_told();
         self.hear_line(alloc, line)
     }
 
@@ -56,19 +56,19 @@ impl Watch {
     ///
     /// # Errors
     /// Memory was refused. The watch is as it was.
-    #[tactic(auto, using(crate::proofs::VinsRead::go_on_assumed))]
+    #[tactic(auto, using(crate::proofs::IdentifiedRead::go_on_assumed))]
     pub fn assume(&mut self, alloc: Global, name: Name, address: u8) -> Result<Changes, AllocError>
         requires { address ≤ GREATEST_ADDRESS }
         ensures told { IfOk result (λ c. IsToldAs (told.Assumed name address) self.old self.new c) }
         ensures stands { OnOk result ((b : Beginning) (ts : List Told) → StandsForAll b ts self.old
             → StandsForAll b (told.Assumed name address ∷ ts) self.new) }
-        ensures vins { OnOk result (VinsGoOn (told.Assumed name address) self.old self.new) }
+        ensures identified { OnOk result (IdentifiedGoesOn (told.Assumed name address) self.old self.new) }
         ensures broken { self.new.broken ≡ self.old.broken }
         ensures err { OnErr result (self.new ≡ self.old) }
     {
         let who = self.who_at(address);
         let changes = self.assume_claim(alloc, name, address)?;
-        self.claim_vins(who, address, name);
+        self.claim_texts(who, address, name);
         Ok(changes)
     }
 
@@ -83,7 +83,7 @@ impl Watch {
         ensures told { IfOk result (λ c. IsToldAs (told.Assumed name address) self.old self.new c) }
         ensures stands { OnOk result ((b : Beginning) (ts : List Told) → StandsForAll b ts self.old
             → StandsForAll b (told.Assumed name address ∷ ts) self.new) }
-        ensures vins { self.new.vins ≡ self.old.vins }
+        ensures identified { self.new.identified ≡ self.old.identified }
         ensures broken { self.new.broken ≡ self.old.broken }
         ensures err { OnErr result (self.new ≡ self.old) }
     {
@@ -128,7 +128,7 @@ impl Watch {
     fn hear_line(&mut self, alloc: Global, line: &Line<'_>) -> Result<Changes, AllocError>
         ensures hears { OnOk result (HearsLine self.old self.new line.now) }
         ensures tells { IfOk result (λ c. TellsLine self.old self.new line.now c) }
-        ensures vins { OnOk result (self.new.vins ≡ vins_in self.old line.now) }
+        ensures identified { OnOk result (self.new.identified ≡ identified_in self.old line.now) }
         ensures err { OnErr result (self.new ≡ self.old) }
     {
         match line {
@@ -160,7 +160,7 @@ impl Watch {
     ) -> Result<Changes, AllocError>
         ensures hears { OnOk result (HearsLine self.old self.new (said.Frame time bus.entry frame.now)) }
         ensures tells { IfOk result (λ c. TellsLine self.old self.new (said.Frame time bus.entry frame.now) c) }
-        ensures vins { OnOk result (self.new.vins ≡ vins_in self.old (said.Frame time bus.entry frame.now)) }
+        ensures identified { OnOk result (self.new.identified ≡ identified_in self.old (said.Frame time bus.entry frame.now)) }
         ensures err { OnErr result (self.new ≡ self.old) }
     {
         if !self.is_watched(bus) {
@@ -182,8 +182,8 @@ impl Watch {
         ensures takes { OnOk result (Takes self.old self.new (followed.frame_reading time (half_in self.old.listener) self.old.followed frame.now) time
             (followed.followed_with time (group_of frame.now) (followed.with_bus_name (option_map string_bytes named) self.old.followed))) }
         ensures tells { IfOk result (λ c. Tells self.old self.new (followed.frame_reading time (half_in self.old.listener) self.old.followed frame.now) c) }
-        ensures vins { OnOk result (self.new.vins ≡ vins_with (coming self.old.lists.selection self.old.lists.time time self.old.followed
-            (who_in self.old.listener (source_of frame.now.id))) frame.now (group_of frame.now) self.old.vins) }
+        ensures identified { OnOk result (self.new.identified ≡ identified_with (coming self.old.lists.selection self.old.lists.time time self.old.followed
+            (who_in self.old.listener (source_of frame.now.id))) frame.now (group_of frame.now) self.old.identified) }
         ensures err { OnErr result (self.new ≡ self.old) }
     {
         let group = ParameterGroup::read(frame);
@@ -205,7 +205,7 @@ impl Watch {
             (followed.followed_with time (group_said group.now) self.old.followed)) }
         ensures tells { IfOk result (λ c. (f : FrameValue) → group_of f ≡ group_said group.now
             → Tells self.old self.new (followed.frame_reading time (half_in self.old.listener) self.old.followed f) c) }
-        ensures vins { self.new.vins ≡ self.old.vins }
+        ensures identified { self.new.identified ≡ self.old.identified }
         ensures err { OnErr result (self.new ≡ self.old) }
     {
         if let ParameterGroup::Other = *group {
@@ -258,7 +258,7 @@ impl Watch {
     ) -> Result<Changes, AllocError>
         ensures hears { OnOk result (HearsLine self.old self.new (said.Overflow time bus.entry)) }
         ensures tells { IfOk result (λ c. TellsLine self.old self.new (said.Overflow time bus.entry) c) }
-        ensures vins { OnOk result (self.new.vins ≡ vins_in self.old (said.Overflow time bus.entry)) }
+        ensures identified { OnOk result (self.new.identified ≡ identified_in self.old (said.Overflow time bus.entry)) }
         ensures err { OnErr result (self.new ≡ self.old) }
     {
         let named = self.bus_named(alloc, bus)?;
@@ -306,7 +306,7 @@ impl Watch {
     ) -> Result<Changes, AllocError>
         ensures hears { OnOk result (HearsLine self.old self.new (said.Foreign bus.entry what)) }
         ensures tells { IfOk result (λ c. TellsLine self.old self.new (said.Foreign bus.entry what) c) }
-        ensures vins { OnOk result (self.new.vins ≡ vins_in self.old (said.Foreign bus.entry what)) }
+        ensures identified { OnOk result (self.new.identified ≡ identified_in self.old (said.Foreign bus.entry what)) }
         ensures err { OnErr result (self.new ≡ self.old) }
     {
         let named = self.bus_named(alloc, bus)?;

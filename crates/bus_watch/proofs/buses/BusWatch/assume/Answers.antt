@@ -7,4 +7,4 @@ use Rattle.bus_watch.proofs.buses.BusWatch.assume.Goals as goal
 pub returns-clause-told : goal.returns-clause-told
 returns-clause-told c =
     subst (λ (n : BusWatch). IsTold (Assumed c.args.name c.args.address) c.args.self.now n) (sym c.note.ensures)
-    (record { bus = refl; stands = c.in_ok-changes.ensures.stands; vins = c.in_ok-changes.ensures.vins; changes = c.in_ok-changes.ensures.told })
+    (record { bus = refl; stands = c.in_ok-changes.ensures.stands; identified = c.in_ok-changes.ensures.identified; changes = c.in_ok-changes.ensures.told })

@@ -1,5 +1,5 @@
 use Rattle.std.proofs.Common.{rules}
-use Rattle.bus_watch.proofs.VinsRead.{over_aside}
+use Rattle.bus_watch.proofs.IdentifiedRead.{over_aside}
 use Rattle.bus_watch.proofs.watch.Watch.start_over.Goals as goal
 
 pub returns-clause-anew : goal.returns-clause-anew

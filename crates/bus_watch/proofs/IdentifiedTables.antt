@@ -1,4 +1,4 @@
--- What is half read of VINs, where nothing is, and after one change.
+-- What is half read of identifications, where nothing is, and after one change.
 use Rattle.std.proofs.Common.{◌≡◌, ◌≤◌, length, arith, ◌==◌, ◌&&◌, ℕ, Bool, true, false, not, List, Option, Some, None, if◌then◌else◌, refl, sym, ap, ◌∙◌, ⊎_elim}
 use Rattle.std.specs.List.{position}
 use Rattle.std.specs.Prelude.{IfSome, slice_set}
@@ -7,6 +7,8 @@ use Rattle.std.proofs.lemmas.List.{set-get_or, get_or-replicate, get_or_past}
 use Rattle.std.proofs.lemmas.Bool.{cases_lt}
 use Rattle.bus_model.specs.Overheard.{HalfSent}
 use Rattle.bus_model.specs.declared.who.Who.{Who}
+use Rattle.dm_words.specs.Identification.{identification_of}
+use Rattle.dm_words.specs.declared.identification.Identification.{Identification}
 use Rattle.can_frame.specs.declared.address.TheConstants.{GLOBAL_ADDRESS}
 use Rattle.reassembly.specs.Pacing.{fate_of, is_over_if, lets_come_if, packet_number, paced, step_of, was_read}
 use Rattle.reassembly.specs.Pairs.{no_pairs, pair_at, pairs_from, with_pair}
@@ -22,11 +24,12 @@ use Rattle.transport.specs.declared.control.Control.{Control}
 use Rattle.transport.specs.declared.control.Control.TheVariants.{Abort, Bam, Cts, EndAck, Rts}
 use Rattle.transport.specs.declared.took.Took.TheVariants.{More, Whole, Broken}
 use Rattle.bus_watch.specs.Runs.{is_of_name}
-use Rattle.bus_watch.specs.Vins.{HalfTold, VinsValue, ends_vin, front_length, halves_claimed, halves_managed, packet_by, packet_to, read_to, vin_announced, vin_of, with_told}
-use Rattle.bus_watch.specs.declared.vin.TheConstants.{VEHICLE_IDENTIFICATION}
-use Rattle.bus_watch.specs.declared.watch.vins.VinPacket.{VinPacket}
+use Rattle.bus_watch.specs.Identified.{HalfTold, IdentifiedValue, announced_by, ends_vin, front_length, halves_claimed, halves_managed, newly_told, packet_by, packet_to, read_to, text_announced, text_of, with_told}
+use Rattle.bus_watch.specs.declared.text_list.UnitText.{UnitText}
+use Rattle.bus_watch.specs.declared.watch.identified.AnnouncedText.{AnnouncedText}
+use Rattle.bus_watch.specs.declared.watch.identified.TextPacket.{TextPacket}
 
--- a VIN ends within its payload
+-- a identification ends within its payload
 pub end_within : (bytes : List ℕ) → front_length (position ends_vin bytes) (length bytes) ≤ length bytes
 end_within bytes = go (position ends_vin bytes) refl
   where
@@ -94,63 +97,66 @@ breaks bytes (Some half) is = go (with_packet bytes (Some half)) is
     go None e = refl
     go (Some p) e = by p (is_whole p) e
 
--- what the VINs are then: the last one tells one
-pub read_whole : (is_shown : Bool) (who : Who) (s d : ℕ) (bytes vin : List ℕ) (v : VinsValue) → answer_to bytes (pair_at v.half s d) ≡ Some Whole
-    → IfSome (with_packet bytes (pair_at v.half s d)) (λ p. vin ≡ vin_of (joined p.size p.pieces))
-    → (if is_shown then record v { half = with_pair v.half s d None; kept = with_told who vin v.kept } else record v { half = with_pair v.half s d None })
-    ≡ read_to is_shown who (with_packet bytes (pair_at v.half s d)) (record v { half = with_pair v.half s d (after_packet bytes (pair_at v.half s d)) })
-read_whole is_shown who s d bytes vin v is text =
+-- what is identified then: the last one tells a text
+pub read_whole : (is_shown : Bool) (s d : ℕ) (bytes : List ℕ) (unit : UnitText) (v : IdentifiedValue) → answer_to bytes (pair_at v.half s d) ≡ Some Whole
+    → IfSome (with_packet bytes (pair_at v.half s d)) (λ p. unit ≡ record { teller = p.tag; text = text_of p.tag.what (joined p.size p.pieces) })
+    → (if is_shown then record v { half = with_pair v.half s d None; kept = with_told unit.teller unit.text v.kept } else record v { half = with_pair v.half s d None })
+    ≡ read_to is_shown (with_packet bytes (pair_at v.half s d)) (record v { half = with_pair v.half s d (after_packet bytes (pair_at v.half s d)) })
+read_whole is_shown s d bytes unit v is text =
     go (pair_at v.half s d) is text
-    ∙ ap (λ (o : Option HalfTold). read_to is_shown who (with_packet bytes (pair_at v.half s d)) (record v { half = with_pair v.half s d o })) (sym (ends bytes (pair_at v.half s d) is))
+    ∙ ap (λ (o : Option HalfTold). read_to is_shown (with_packet bytes (pair_at v.half s d)) (record v { half = with_pair v.half s d o })) (sym (ends bytes (pair_at v.half s d) is))
   where
-    left : VinsValue
+    left : IdentifiedValue
     left = record v { half = with_pair v.half s d None }
 
-    shown : (b : Bool) (p : HalfTold) → vin ≡ vin_of (joined p.size p.pieces)
-        → (if b then record left { kept = with_told who vin v.kept } else left) ≡ (if b then record left { kept = with_told who (vin_of (joined p.size p.pieces)) v.kept } else left)
-    shown true p e = ap (λ (t : List ℕ). record left { kept = with_told who t v.kept }) e
+    shown : (b : Bool) (p : HalfTold) → unit ≡ record { teller = p.tag; text = text_of p.tag.what (joined p.size p.pieces) }
+        → (if b then record left { kept = with_told unit.teller unit.text v.kept } else left)
+        ≡ (if b then record left { kept = with_told p.tag (text_of p.tag.what (joined p.size p.pieces)) v.kept } else left)
+    shown true p e = ap (λ (u : UnitText). record left { kept = with_told u.teller u.text v.kept }) e
     shown false p e = refl
 
-    by : (p : HalfTold) (b : Bool) → Some (if b then Whole else More) ≡ Some Whole → vin ≡ vin_of (joined p.size p.pieces)
-        → (if is_shown then record left { kept = with_told who vin v.kept } else left)
-        ≡ (if b && is_shown then record left { kept = with_told who (vin_of (joined p.size p.pieces)) v.kept } else left)
+    by : (p : HalfTold) (b : Bool) → Some (if b then Whole else More) ≡ Some Whole
+        → unit ≡ record { teller = p.tag; text = text_of p.tag.what (joined p.size p.pieces) }
+        → (if is_shown then record left { kept = with_told unit.teller unit.text v.kept } else left)
+        ≡ (if b && is_shown then record left { kept = with_told p.tag (text_of p.tag.what (joined p.size p.pieces)) v.kept } else left)
     by p true e t = shown is_shown p t
     by p false e t = absurd cc
 
-    with_it : (x : Option HalfTold) → Some (took_by x) ≡ Some Whole → IfSome x (λ p. vin ≡ vin_of (joined p.size p.pieces))
-        → (if is_shown then record left { kept = with_told who vin v.kept } else left) ≡ read_to is_shown who x left
+    with_it : (x : Option HalfTold) → Some (took_by x) ≡ Some Whole → IfSome x (λ p. unit ≡ record { teller = p.tag; text = text_of p.tag.what (joined p.size p.pieces) })
+        → (if is_shown then record left { kept = with_told unit.teller unit.text v.kept } else left) ≡ read_to is_shown x left
     with_it None e t = absurd cc
     with_it (Some p) e t = by p (is_whole p) e t
 
-    go : (o : Option HalfTold) → answer_to bytes o ≡ Some Whole → IfSome (with_packet bytes o) (λ p. vin ≡ vin_of (joined p.size p.pieces))
-        → (if is_shown then record left { kept = with_told who vin v.kept } else left) ≡ read_to is_shown who (with_packet bytes o) left
+    go : (o : Option HalfTold) → answer_to bytes o ≡ Some Whole
+        → IfSome (with_packet bytes o) (λ p. unit ≡ record { teller = p.tag; text = text_of p.tag.what (joined p.size p.pieces) })
+        → (if is_shown then record left { kept = with_told unit.teller unit.text v.kept } else left) ≡ read_to is_shown (with_packet bytes o) left
     go None e t = absurd cc
     go (Some half) e t = with_it (with_packet bytes (Some half)) e t
 
 -- and any other one tells none
-pub read_more : (is_shown : Bool) (who : Who) (bytes : List ℕ) (o : Option HalfTold) (v : VinsValue) → answer_to bytes o ≡ Some More → read_to is_shown who (with_packet bytes o) v ≡ v
-read_more is_shown who bytes None v is = absurd cc
-read_more is_shown who bytes (Some half) v is = go (with_packet bytes (Some half)) is
+pub read_more : (is_shown : Bool) (bytes : List ℕ) (o : Option HalfTold) (v : IdentifiedValue) → answer_to bytes o ≡ Some More → read_to is_shown (with_packet bytes o) v ≡ v
+read_more is_shown bytes None v is = absurd cc
+read_more is_shown bytes (Some half) v is = go (with_packet bytes (Some half)) is
   where
     by : (p : HalfTold) (b : Bool) → Some (if b then Whole else More) ≡ Some More
-        → (if b && is_shown then record v { kept = with_told who (vin_of (joined p.size p.pieces)) v.kept } else v) ≡ v
+        → (if b && is_shown then record v { kept = with_told p.tag (text_of p.tag.what (joined p.size p.pieces)) v.kept } else v) ≡ v
     by p true e = absurd cc
     by p false e = refl
 
-    go : (x : Option HalfTold) → Some (took_by x) ≡ Some More → read_to is_shown who x v ≡ v
+    go : (x : Option HalfTold) → Some (took_by x) ≡ Some More → read_to is_shown x v ≡ v
     go None e = absurd cc
     go (Some p) e = by p (is_whole p) e
 
-pub read_broken : (is_shown : Bool) (who : Who) (bytes : List ℕ) (o : Option HalfTold) (v : VinsValue) → answer_to bytes o ≡ Some Broken → read_to is_shown who (with_packet bytes o) v ≡ v
-read_broken is_shown who bytes None v is = absurd cc
-read_broken is_shown who bytes (Some half) v is = go (with_packet bytes (Some half)) is
+pub read_broken : (is_shown : Bool) (bytes : List ℕ) (o : Option HalfTold) (v : IdentifiedValue) → answer_to bytes o ≡ Some Broken → read_to is_shown (with_packet bytes o) v ≡ v
+read_broken is_shown bytes None v is = absurd cc
+read_broken is_shown bytes (Some half) v is = go (with_packet bytes (Some half)) is
   where
     by : (p : HalfTold) (b : Bool) → Some (if b then Whole else More) ≡ Some Broken
-        → (if b && is_shown then record v { kept = with_told who (vin_of (joined p.size p.pieces)) v.kept } else v) ≡ v
+        → (if b && is_shown then record v { kept = with_told p.tag (text_of p.tag.what (joined p.size p.pieces)) v.kept } else v) ≡ v
     by p true e = absurd cc
     by p false e = absurd cc
 
-    go : (x : Option HalfTold) → Some (took_by x) ≡ Some Broken → read_to is_shown who x v ≡ v
+    go : (x : Option HalfTold) → Some (took_by x) ≡ Some Broken → read_to is_shown x v ≡ v
     go None e = refl
     go (Some p) e = by p (is_whole p) e
 
@@ -184,66 +190,74 @@ none_again silence now bytes pace half was lets =
 
 pub one_read : (silence : Silence) (now : Option ℕ) (bytes : List ℕ) (pace : Option Pace) (a : Option HalfSent) (half : HalfTold)
     → (fate_of silence now bytes pace a ≡ Late → ⊥) → (lets_come_if pace (packet_number bytes) && was_read bytes (Some half)) ≡ false
-    → packet_to silence now bytes pace (Some half) ≡ Some (record { who = half.tag; took = took_by (with_packet bytes (Some half)) })
+    → packet_to silence now bytes pace (Some half) ≡ Some (record { who = half.tag.who; took = took_by (with_packet bytes (Some half)) })
 one_read silence now bytes pace a half on_time none =
     ap (λ (b : Bool). packet_by (if is_over_if (paced silence now (step_of bytes) pace) then Late else (if b then Again else Read)) bytes half) none
     ∙ go (is_over_if (paced silence now (step_of bytes) pace)) (lets_come_if pace (packet_number bytes) && was_read bytes a) on_time
   where
     go : (over one : Bool) → ((if over then Late else (if one then Again else Read)) ≡ Late → ⊥)
-        → packet_by (if over then Late else Read) bytes half ≡ Some (record { who = half.tag; took = took_by (with_packet bytes (Some half)) })
+        → packet_by (if over then Late else Read) bytes half ≡ Some (record { who = half.tag.who; took = took_by (with_packet bytes (Some half)) })
     go true one not = absurd (not refl)
     go false one not = refl
 
 -- one that is read was answered so
-pub answered_so : (silence : Silence) (now : Option ℕ) (bytes : List ℕ) (pace : Option Pace) (o : Option HalfTold) (packet : VinPacket)
+pub answered_so : (silence : Silence) (now : Option ℕ) (bytes : List ℕ) (pace : Option Pace) (o : Option HalfTold) (packet : TextPacket)
     → Some packet ≡ packet_to silence now bytes pace o → answer_to bytes o ≡ Some packet.took
 answered_so silence now bytes pace None packet e = absurd cc
 answered_so silence now bytes pace (Some half) packet e = go (fate_of silence now bytes pace (Some half)) e
   where
     go : (f : Fate) → Some packet ≡ packet_by f bytes half → answer_to bytes (Some half) ≡ Some packet.took
-    go Read i = (let same : packet ≡ record { who = half.tag; took = took_by (with_packet bytes (Some half)) } = cc in ap (λ (p : VinPacket). Some p.took) (sym same))
+    go Read i = (let same : packet ≡ record { who = half.tag.who; took = took_by (with_packet bytes (Some half)) } = cc in ap (λ (p : TextPacket). Some p.took) (sym same))
     go Late i = absurd cc
     go Again i = absurd cc
 
 -- ---- announcements
 
--- one of a VIN begins it
-pub begun_by : (who : Who) (s d size : ℕ) (m : Control) (half : List (List (Option HalfTold))) → vin_announced d m ≡ Some size
-    → halves_managed who s d m half ≡ with_pair half s d (Some (begun who size))
-begun_by who s d size (Bam n packets pgn) half is = go (d == GLOBAL_ADDRESS) (pgn == VEHICLE_IDENTIFICATION) is
+-- one of an identification begins it
+newly_begun : (who : Who) (o : Option Identification) (n pgn : ℕ) (a : AnnouncedText) → announced_by o n pgn ≡ Some a → newly_told o n who ≡ Some (begun (record { who = who; what = a.what }) a.size)
+newly_begun who None n pgn a e = absurd cc
+newly_begun who (Some what) n pgn a e = (let same : record { size = n; pgn = pgn; what = what } ≡ a = cc in ap (λ (x : AnnouncedText). Some (begun (record { who = who; what = x.what }) x.size)) same)
+
+pub begun_by : (who : Who) (s d : ℕ) (a : AnnouncedText) (m : Control) (half : List (List (Option HalfTold))) → text_announced d m ≡ Some a
+    → halves_managed who s d m half ≡ with_pair half s d (Some (begun (record { who = who; what = a.what }) a.size))
+begun_by who s d a (Bam n packets pgn) half is = go (d == GLOBAL_ADDRESS) is
   where
-    go : (a b : Bool) → (if a && b then Some n else None) ≡ Some size → (if a then with_pair half s d (if b then Some (begun who n) else None) else half) ≡ with_pair half s d (Some (begun who size))
-    go true true e = (let same : n ≡ size = cc in ap (λ (k : ℕ). with_pair half s d (Some (begun who k))) same)
-    go true false e = absurd cc
-    go false b e = absurd cc
-begun_by who s d size (Rts n packets most pgn) half is = go (d == GLOBAL_ADDRESS) (pgn == VEHICLE_IDENTIFICATION) is
+    go : (b : Bool) → (if b then announced_by (identification_of pgn) n pgn else None) ≡ Some a
+        → (if b then with_pair half s d (newly_told (identification_of pgn) n who) else half) ≡ with_pair half s d (Some (begun (record { who = who; what = a.what }) a.size))
+    go true e = ap (λ (o : Option HalfTold). with_pair half s d o) (newly_begun who (identification_of pgn) n pgn a e)
+    go false e = absurd cc
+begun_by who s d a (Rts n packets most pgn) half is = go (d == GLOBAL_ADDRESS) is
   where
-    go : (a b : Bool) → (if not a && b then Some n else None) ≡ Some size → (if a then half else with_pair half s d (if b then Some (begun who n) else None)) ≡ with_pair half s d (Some (begun who size))
-    go false true e = (let same : n ≡ size = cc in ap (λ (k : ℕ). with_pair half s d (Some (begun who k))) same)
-    go false false e = absurd cc
-    go true b e = absurd cc
-begun_by who s d size (Cts granted next pgn) half is = absurd cc
-begun_by who s d size (EndAck n packets pgn) half is = absurd cc
-begun_by who s d size (Abort reason pgn) half is = absurd cc
+    go : (b : Bool) → (if b then None else announced_by (identification_of pgn) n pgn) ≡ Some a
+        → (if b then half else with_pair half s d (newly_told (identification_of pgn) n who)) ≡ with_pair half s d (Some (begun (record { who = who; what = a.what }) a.size))
+    go false e = ap (λ (o : Option HalfTold). with_pair half s d o) (newly_begun who (identification_of pgn) n pgn a e)
+    go true e = absurd cc
+begun_by who s d a (Cts granted next pgn) half is = absurd cc
+begun_by who s d a (EndAck n packets pgn) half is = absurd cc
+begun_by who s d a (Abort reason pgn) half is = absurd cc
 
 -- any other one drops what was half read between the two
-pub bam_of_other : (who : Who) (s d n packets pgn : ℕ) (half : List (List (Option HalfTold))) → vin_announced d (Bam n packets pgn) ≡ None → (d == GLOBAL_ADDRESS) ≡ true
-    → with_pair half s d None ≡ halves_managed who s d (Bam n packets pgn) half
-bam_of_other who s d n packets pgn half is all = go (d == GLOBAL_ADDRESS) (pgn == VEHICLE_IDENTIFICATION) all is
-  where
-    go : (a b : Bool) → a ≡ true → (if a && b then Some n else None) ≡ None → with_pair half s d None ≡ (if a then with_pair half s d (if b then Some (begun who n) else None) else half)
-    go true true t e = absurd cc
-    go true false t e = refl
-    go false b t e = absurd cc
+none_begun : (who : Who) (o : Option Identification) (n pgn : ℕ) → announced_by o n pgn ≡ None → newly_told o n who ≡ None
+none_begun who None n pgn e = refl
+none_begun who (Some what) n pgn e = absurd cc
 
-pub rts_of_other : (who : Who) (s d n packets most pgn : ℕ) (half : List (List (Option HalfTold))) → vin_announced d (Rts n packets most pgn) ≡ None → (d == GLOBAL_ADDRESS) ≡ false
-    → with_pair half s d None ≡ halves_managed who s d (Rts n packets most pgn) half
-rts_of_other who s d n packets most pgn half is one = go (d == GLOBAL_ADDRESS) (pgn == VEHICLE_IDENTIFICATION) one is
+pub bam_of_other : (who : Who) (s d n packets pgn : ℕ) (half : List (List (Option HalfTold))) → text_announced d (Bam n packets pgn) ≡ None → (d == GLOBAL_ADDRESS) ≡ true
+    → with_pair half s d None ≡ halves_managed who s d (Bam n packets pgn) half
+bam_of_other who s d n packets pgn half is all = go (d == GLOBAL_ADDRESS) all is
   where
-    go : (a b : Bool) → a ≡ false → (if not a && b then Some n else None) ≡ None → with_pair half s d None ≡ (if a then half else with_pair half s d (if b then Some (begun who n) else None))
-    go false true t e = absurd cc
-    go false false t e = refl
-    go true b t e = absurd cc
+    go : (b : Bool) → b ≡ true → (if b then announced_by (identification_of pgn) n pgn else None) ≡ None
+        → with_pair half s d None ≡ (if b then with_pair half s d (newly_told (identification_of pgn) n who) else half)
+    go true t e = ap (λ (o : Option HalfTold). with_pair half s d o) (sym (none_begun who (identification_of pgn) n pgn e))
+    go false t e = absurd cc
+
+pub rts_of_other : (who : Who) (s d n packets most pgn : ℕ) (half : List (List (Option HalfTold))) → text_announced d (Rts n packets most pgn) ≡ None → (d == GLOBAL_ADDRESS) ≡ false
+    → with_pair half s d None ≡ halves_managed who s d (Rts n packets most pgn) half
+rts_of_other who s d n packets most pgn half is one = go (d == GLOBAL_ADDRESS) one is
+  where
+    go : (b : Bool) → b ≡ false → (if b then None else announced_by (identification_of pgn) n pgn) ≡ None
+        → with_pair half s d None ≡ (if b then half else with_pair half s d (newly_told (identification_of pgn) n who))
+    go false t e = ap (λ (o : Option HalfTold). with_pair half s d o) (sym (none_begun who (identification_of pgn) n pgn e))
+    go true t e = absurd cc
 
 -- what was begun, and is undone
 pub undone : (before after restored : List (List (Option HalfTold))) (s d : ℕ) (v o : Option HalfTold) → after ≡ with_pair before s d v → o ≡ pair_at before s d → restored ≡ with_pair after s d o → restored ≡ before

@@ -1,7 +1,7 @@
 use Rattle.std.proofs.Common.{◌≡◌, ◌≤◌, vec_len, vec_capacity}
 use Rattle.std.specs.Prelude.{replicate}
 use Rattle.reassembly.specs.Tables.{empty_table}
-use Rattle.bus_watch.proofs.half_vins.no_sources.Given as goal
+use Rattle.bus_watch.proofs.half_texts.no_sources.Given as goal
 
 -- so many tables are there
 abbrev pub invariant-loop : goal.invariant-loop

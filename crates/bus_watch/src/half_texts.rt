@@ -4,24 +4,24 @@ ghost use Rattle.reassembly.specs.Pairs.{no_pairs, pair_at, with_pair};
 ghost use Rattle.reassembly.specs.Partials.{after_packet, answer_to, with_packet};
 ghost use Rattle.reassembly.specs.Tables.{at, empty_table};
 ghost use Rattle.transport.specs.Pieces.{joined};
-ghost use Rattle.bus_watch.specs.Vins.{vin_of};
+ghost use Rattle.bus_watch.specs.Identified.{text_of};
 
-use crate::half_vin::HalfVin;
-use crate::vin::Vin;
+use crate::half_text::HalfText;
+use crate::text_list::UnitText;
 use reassembly::AddressTable;
 use std::alloc::{AllocError, Global};
 use std::marker::Model;
 use transport::Took;
 
-/// The VINs half read from one source, by their destination.
+/// The identifications half read from one source, by their destination.
 #[derive(Drop)]
 struct FromSource {
-    table: AddressTable<HalfVin>,
+    table: AddressTable<HalfText>,
 }
 
 impl Model for FromSource {
     ghost use Rattle.std.specs.Prelude.{List, Option};
-    ghost use Rattle.bus_watch.specs.Vins.{HalfTold};
+    ghost use Rattle.bus_watch.specs.Identified.{HalfTold};
 
     ghost Value = { List (Option HalfTold) };
 
@@ -39,7 +39,7 @@ impl FromSource {
     }
 
     /// What is half read to an address.
-    fn get(&self, dest: u8) -> Option<&HalfVin>
+    fn get(&self, dest: u8) -> Option<&HalfText>
         ensures { option_copied result ≡ at self.now dest }
     {
         self.table.get(dest)
@@ -47,7 +47,7 @@ impl FromSource {
 
     /// One to an address is announced. Gives what was half read to there. Where memory is refused, nothing changes.
     #[tactic(auto, using(reassembly::proofs::TableLemmas::put_instead))]
-    fn begin(&mut self, dest: u8, half: HalfVin) -> Result<Option<HalfVin>, AllocError>
+    fn begin(&mut self, dest: u8, half: HalfText) -> Result<Option<HalfText>, AllocError>
         ensures before { IfOk result (λ o. o ≡ at self.old dest) }
         ensures ok { OnOk result (self.new ≡ slice_set self.old dest (Some half)) }
         ensures there { OnOk result (at self.new dest ≡ Some half) }
@@ -61,7 +61,7 @@ impl FromSource {
 
     /// What is half read to an address is what it was before another one was announced.
     #[tactic(auto, using(reassembly::proofs::TableLemmas::put_instead))]
-    fn restore(&mut self, dest: u8, before: Option<HalfVin>)
+    fn restore(&mut self, dest: u8, before: Option<HalfText>)
         requires { IsSome (at self.old dest) }
         ensures { self.new ≡ slice_set self.old dest before }
     {
@@ -100,31 +100,31 @@ impl FromSource {
         self.table.put(dest, half);
     }
 
-    /// The VIN of the message to an address, which ends with this packet and is dropped.
-    fn finish(&mut self, dest: u8, packet: &[u8]) -> Vin
+    /// What is told by the message to an address, which ends with this packet and is dropped.
+    fn finish(&mut self, dest: u8, packet: &[u8]) -> UnitText
         requires { answer_to packet.now (at self.old dest) ≡ Some Took.Whole }
         ensures left { self.new ≡ slice_set self.old dest None }
-        ensures vin { IfSome (with_packet packet.now (at self.old dest)) (λ p. result ≡ vin_of (joined p.size p.pieces)) }
+        ensures text { IfSome (with_packet packet.now (at self.old dest)) (λ p. result ≡ record { teller = p.tag; text = text_of p.tag.what (joined p.size p.pieces) }) }
     {
         let Some(mut half) = self.table.take(dest) else {
             unreachable!()
         };
         half.add(packet);
-        half.vin()
+        half.text()
     }
 }
 
-/// The VINs half read, by the address that they come from and the one that they go to: at most one of each pair.
+/// The identifications half read, by the address that they come from and the one that they go to: at most one of each pair.
 ///
-/// It has a table for each source, which takes its memory at the first VIN from there.
+/// It has a table for each source, which takes its memory at the first one from there.
 #[derive(Drop)]
-pub(crate) struct HalfVins {
+pub(crate) struct HalfTexts {
     sources: Vec<FromSource>,
 }
 
-impl Model for HalfVins {
+impl Model for HalfTexts {
     ghost use Rattle.std.specs.Prelude.{◌≡◌, List, Option, length};
-    ghost use Rattle.bus_watch.specs.Vins.{HalfTold};
+    ghost use Rattle.bus_watch.specs.Identified.{HalfTold};
 
     ghost Value = { List (List (Option HalfTold)) };
 
@@ -133,18 +133,18 @@ impl Model for HalfVins {
     ghost invariant = { λ h. length h.sources.items ≡ 256 };
 }
 
-impl HalfVins {
+impl HalfTexts {
     /// None between any two addresses.
     #[tactic(auto, unfolding(reassembly::specs::Pairs::no_pairs))]
-    pub(crate) fn new(alloc: Global) -> Result<HalfVins, AllocError>
+    pub(crate) fn new(alloc: Global) -> Result<HalfTexts, AllocError>
         ensures { IfOk result (λ h. h ≡ no_pairs) }
     {
         let sources = no_sources(alloc)?;
-        Ok(HalfVins { sources })
+        Ok(HalfTexts { sources })
     }
 
     /// What is half read between two addresses.
-    pub(crate) fn get(&self, source: u8, dest: u8) -> Option<&HalfVin>
+    pub(crate) fn get(&self, source: u8, dest: u8) -> Option<&HalfText>
         ensures { option_copied result ≡ pair_at self.now source dest }
     {
         self.sources[usize::from(source)].get(dest)
@@ -155,8 +155,8 @@ impl HalfVins {
         &mut self,
         source: u8,
         dest: u8,
-        half: HalfVin,
-    ) -> Result<Option<HalfVin>, AllocError>
+        half: HalfText,
+    ) -> Result<Option<HalfText>, AllocError>
         ensures before { IfOk result (λ o. o ≡ pair_at self.old source dest) }
         ensures ok { OnOk result (self.new ≡ with_pair self.old source dest (Some half)) }
         ensures there { OnOk result (IsSome (pair_at self.new source dest)) }
@@ -166,7 +166,7 @@ impl HalfVins {
     }
 
     /// What is half read between two addresses is what it was before another one was announced.
-    pub(crate) fn restore(&mut self, source: u8, dest: u8, before: Option<HalfVin>)
+    pub(crate) fn restore(&mut self, source: u8, dest: u8, before: Option<HalfText>)
         requires { IsSome (pair_at self.old source dest) }
         ensures { self.new ≡ with_pair self.old source dest before }
     {
@@ -195,11 +195,11 @@ impl HalfVins {
         self.sources[usize::from(source)].grow(dest, packet);
     }
 
-    /// The VIN of the message between two addresses, which ends with this packet and is dropped.
-    pub(crate) fn finish(&mut self, source: u8, dest: u8, packet: &[u8]) -> Vin
+    /// What is told by the message between two addresses, which ends with this packet and is dropped.
+    pub(crate) fn finish(&mut self, source: u8, dest: u8, packet: &[u8]) -> UnitText
         requires { answer_to packet.now (pair_at self.old source dest) ≡ Some Took.Whole }
         ensures left { self.new ≡ with_pair self.old source dest None }
-        ensures vin { IfSome (with_packet packet.now (pair_at self.old source dest)) (λ p. result ≡ vin_of (joined p.size p.pieces)) }
+        ensures text { IfSome (with_packet packet.now (pair_at self.old source dest)) (λ p. result ≡ record { teller = p.tag; text = text_of p.tag.what (joined p.size p.pieces) }) }
     {
         self.sources[usize::from(source)].finish(dest, packet)
     }

@@ -5,59 +5,58 @@ ghost use Rattle.reassembly.specs.Pairs.{no_pairs, pair_at, with_pair};
 ghost use Rattle.reassembly.specs.Partials.{after_packet, answer_to, with_packet};
 ghost use Rattle.transport.specs.Pieces.{joined};
 ghost use Rattle.reassembly.specs.Tables.{empty_table};
-ghost use Rattle.bus_watch.specs.Vins as vins;
+ghost use Rattle.bus_watch.specs.Identified as identified;
 
-use crate::half_vin::HalfVin;
-use crate::half_vins::HalfVins;
-use crate::vin::Vin;
-use crate::vin_list::VinList;
+use crate::half_text::HalfText;
+use crate::half_texts::HalfTexts;
+use crate::teller::Teller;
+use crate::text_list::{TextList, UnitText};
 use can_frame::GLOBAL_ADDRESS;
-use listener::Who;
 use std::alloc::{AllocError, Global};
 use std::marker::Model;
 use transport::{Control, Took};
 
-/// The VINs that units tell: those that are half read, and the newest of each unit.
+/// What units tell of themselves: what is half read, and the newest text of each unit and identification.
 ///
-/// It takes the memory for what is half read at the first VIN in several packets.
+/// It takes the memory for what is half read at the first identification in several packets.
 #[derive(Drop)]
-pub(crate) struct Vins {
-    half: Option<HalfVins>,
-    kept: VinList,
-    told: Option<Who>,
+pub(crate) struct Identified {
+    half: Option<HalfTexts>,
+    kept: TextList,
+    told: Option<Teller>,
 }
 
 /// Seen as those.
-impl Model for Vins {
-    ghost use Rattle.bus_watch.specs.Vins.{VinsValue, halves_of};
+impl Model for Identified {
+    ghost use Rattle.bus_watch.specs.Identified.{IdentifiedValue, halves_of};
 
-    ghost Value = { VinsValue };
+    ghost Value = { IdentifiedValue };
 
     ghost view = { λ v. record { half = halves_of v.half; kept = v.kept } };
 }
 
-impl Vins {
+impl Identified {
     /// Nothing was read.
-    pub(crate) fn new(alloc: Global) -> Result<Vins, AllocError>
-        ensures { IfOk result (λ v. v ≡ vins.no_vins) }
+    pub(crate) fn new(alloc: Global) -> Result<Identified, AllocError>
+        ensures { IfOk result (λ v. v ≡ identified.none_identified) }
     {
-        let kept = VinList::new(alloc)?;
-        Ok(Vins {
+        let kept = TextList::new(alloc)?;
+        Ok(Identified {
             half: None,
             kept,
             told: None,
         })
     }
 
-    /// The units that told one.
-    pub(crate) fn kept(&self) -> &VinList
+    /// The texts that were told.
+    pub(crate) fn kept(&self) -> &TextList
         ensures { result.now ≡ self.now.kept }
     {
         &self.kept
     }
 
-    /// The unit that told a VIN, by the newest line, that it had not told before.
-    pub(crate) fn told(&self) -> Option<Who> {
+    /// Whose identification, and which, the newest line told that was not told before.
+    pub(crate) fn told(&self) -> Option<Teller> {
         self.told
     }
 
@@ -76,8 +75,8 @@ impl Vins {
     }
 
     /// What is half read between two addresses.
-    #[tactic(auto, using(crate::proofs::VinTables::none_between))]
-    pub(crate) fn half(&self, source: u8, dest: u8) -> Option<&HalfVin>
+    #[tactic(auto, using(crate::proofs::IdentifiedTables::none_between))]
+    pub(crate) fn half(&self, source: u8, dest: u8) -> Option<&HalfText>
         ensures { option_copied result ≡ pair_at self.now.half source dest }
     {
         match &self.half {
@@ -92,8 +91,8 @@ impl Vins {
         alloc: Global,
         source: u8,
         dest: u8,
-        half: HalfVin,
-    ) -> Result<Option<HalfVin>, AllocError>
+        half: HalfText,
+    ) -> Result<Option<HalfText>, AllocError>
         ensures before { IfOk result (λ o. o ≡ pair_at self.old.half source dest) }
         ensures ok { OnOk result (self.new ≡ record self.old { half = with_pair self.old.half source dest (Some half) }) }
         ensures there { OnOk result (IsSome (pair_at self.new.half source dest)) }
@@ -111,23 +110,23 @@ impl Vins {
         alloc: Global,
         source: u8,
         dest: u8,
-        half: HalfVin,
-    ) -> Result<Option<HalfVin>, AllocError>
+        half: HalfText,
+    ) -> Result<Option<HalfText>, AllocError>
         requires { self.old.half ≡ no_pairs }
         ensures before { IfOk result (λ o. o ≡ pair_at self.old.half source dest) }
         ensures ok { OnOk result (self.new ≡ record self.old { half = with_pair self.old.half source dest (Some half) }) }
         ensures there { OnOk result (IsSome (pair_at self.new.half source dest)) }
         ensures err { OnErr result (self.new ≡ self.old) }
     {
-        let mut halves = HalfVins::new(alloc)?;
+        let mut halves = HalfTexts::new(alloc)?;
         let before = halves.begin(source, dest, half)?;
         self.half = Some(halves);
         Ok(before)
     }
 
     /// What is half read between two addresses is what it was before another one was announced.
-    #[tactic(auto, using(crate::proofs::VinTables::none_between))]
-    pub(crate) fn restore(&mut self, source: u8, dest: u8, before: Option<HalfVin>)
+    #[tactic(auto, using(crate::proofs::IdentifiedTables::none_between))]
+    pub(crate) fn restore(&mut self, source: u8, dest: u8, before: Option<HalfText>)
         requires { IsSome (pair_at self.old.half source dest) }
         ensures { self.new ≡ record self.old { half = with_pair self.old.half source dest before } }
     {
@@ -137,11 +136,11 @@ impl Vins {
         halves.restore(source, dest, before);
     }
 
-    /// A message of connection management that announces no VIN came from a source to a destination.
-    #[tactic(auto, using(crate::proofs::VinTables::bam_of_other, crate::proofs::VinTables::rts_of_other))]
+    /// A message of connection management that announces no identification came from a source to a destination.
+    #[tactic(auto, using(crate::proofs::IdentifiedTables::bam_of_other, crate::proofs::IdentifiedTables::rts_of_other))]
     pub(crate) fn manage(&mut self, source: u8, dest: u8, control: Control)
-        requires { vins.vin_announced dest control ≡ None }
-        ensures { (who : AnyWho) → self.new ≡ record self.old { half = vins.halves_managed who source dest control self.old.half } }
+        requires { identified.text_announced dest control ≡ None }
+        ensures { (who : AnyWho) → self.new ≡ record self.old { half = identified.halves_managed who source dest control self.old.half } }
     {
         match control {
             Control::Bam { .. } if dest == GLOBAL_ADDRESS => self.forget(source, dest),
@@ -156,7 +155,7 @@ impl Vins {
 
     /// A session ends; a message to all does not.
     fn end_session(&mut self, source: u8, dest: u8)
-        ensures { self.new ≡ record self.old { half = vins.without_vin_between source dest self.old.half } }
+        ensures { self.new ≡ record self.old { half = identified.without_text_between source dest self.old.half } }
     {
         if dest != GLOBAL_ADDRESS {
             self.forget(source, dest);
@@ -164,7 +163,7 @@ impl Vins {
     }
 
     /// What was half read between two addresses is dropped.
-    #[tactic(auto, using(crate::proofs::VinTables::none_dropped))]
+    #[tactic(auto, using(crate::proofs::IdentifiedTables::none_dropped))]
     fn forget(&mut self, source: u8, dest: u8)
         ensures { self.new ≡ record self.old { half = with_pair self.old.half source dest None } }
     {
@@ -174,7 +173,7 @@ impl Vins {
     }
 
     /// All that is half read from a source is dropped.
-    #[tactic(auto, using(crate::proofs::VinTables::no_source_dropped))]
+    #[tactic(auto, using(crate::proofs::IdentifiedTables::no_source_dropped))]
     pub(crate) fn forget_from(&mut self, source: u8)
         ensures { self.new ≡ record self.old { half = slice_set self.old.half source empty_table } }
     {
@@ -185,13 +184,13 @@ impl Vins {
 
     /// All that is half read is dropped.
     pub(crate) fn start_over(&mut self)
-        ensures { self.new ≡ vins.vins_anew self.old }
+        ensures { self.new ≡ identified.identified_anew self.old }
     {
         self.half = None;
     }
 
     /// A packet was read that was answered so: the message between two addresses grows by it, or is no longer half read.
-    #[tactic(auto, using(crate::proofs::VinTables::goes_on, crate::proofs::VinTables::ends, crate::proofs::VinTables::breaks))]
+    #[tactic(auto, using(crate::proofs::IdentifiedTables::goes_on, crate::proofs::IdentifiedTables::ends, crate::proofs::IdentifiedTables::breaks))]
     pub(crate) fn read(&mut self, source: u8, dest: u8, packet: &[u8], took: Took)
         requires { answer_to packet.now (pair_at self.old.half source dest) ≡ Some took }
         ensures { self.new ≡ record self.old { half = with_pair self.old.half source dest (after_packet packet.now (pair_at self.old.half source dest)) } }
@@ -203,7 +202,7 @@ impl Vins {
     }
 
     /// The message between two addresses grows by a packet that is its next one.
-    #[tactic(auto, using(crate::proofs::VinTables::none_between))]
+    #[tactic(auto, using(crate::proofs::IdentifiedTables::none_between))]
     fn grow(&mut self, source: u8, dest: u8, packet: &[u8])
         requires { answer_to packet.now (pair_at self.old.half source dest) ≡ Some Took.More }
         ensures { self.new ≡ record self.old { half = with_pair self.old.half source dest (with_packet packet.now (pair_at self.old.half source dest)) } }
@@ -214,12 +213,12 @@ impl Vins {
         halves.grow(source, dest, packet);
     }
 
-    /// The VIN of the message between two addresses, which ends with this packet and is dropped.
-    #[tactic(auto, using(crate::proofs::VinTables::none_between))]
-    pub(crate) fn finish(&mut self, source: u8, dest: u8, packet: &[u8]) -> Vin
+    /// What is told by the message between two addresses, which ends with this packet and is dropped.
+    #[tactic(auto, using(crate::proofs::IdentifiedTables::none_between))]
+    pub(crate) fn finish(&mut self, source: u8, dest: u8, packet: &[u8]) -> UnitText
         requires { answer_to packet.now (pair_at self.old.half source dest) ≡ Some Took.Whole }
         ensures left { self.new ≡ record self.old { half = with_pair self.old.half source dest None } }
-        ensures vin { IfSome (with_packet packet.now (pair_at self.old.half source dest)) (λ p. result ≡ vins.vin_of (joined p.size p.pieces)) }
+        ensures text { IfSome (with_packet packet.now (pair_at self.old.half source dest)) (λ p. result ≡ record { teller = p.tag; text = identified.text_of p.tag.what (joined p.size p.pieces) }) }
     {
         let Some(halves) = &mut self.half else {
             unreachable!()
@@ -227,13 +226,13 @@ impl Vins {
         halves.finish(source, dest, packet)
     }
 
-    /// A unit told a VIN.
-    pub(crate) fn keep(&mut self, who: Who, vin: Vin)
-        ensures { self.new ≡ record self.old { kept = vins.with_told who vin self.old.kept } }
+    /// A unit told a text.
+    pub(crate) fn keep(&mut self, unit: UnitText)
+        ensures { self.new ≡ record self.old { kept = identified.with_told unit.teller unit.text self.old.kept } }
     {
-        let whose = who;
-        if self.kept.tell(whose, vin) {
-            self.told = Some(who);
+        let teller = unit.teller;
+        if self.kept.tell(unit) {
+            self.told = Some(teller);
         }
     }
 }

@@ -2,50 +2,57 @@ ghost use Rattle.std.specs.Prelude.{◌≡◌, ◌≤◌, Some, IfOk, IsSome, Is
 ghost use Rattle.reassembly.specs.Pacing.{was_read};
 ghost use Rattle.reassembly.specs.Partials.{begun, is_whole, took_by, with_packet};
 ghost use Rattle.transport.specs.Pieces.{joined};
-ghost use Rattle.bus_watch.specs.Vins.{vin_of};
+ghost use Rattle.bus_watch.specs.Identified.{text_of};
 
-use crate::vin::Vin;
+use crate::teller::Teller;
+use crate::text_list::UnitText;
+use crate::told_text::ToldText;
 use can_frame::Pgn;
 use listener::Who;
 use std::alloc::{AllocError, Global};
 use std::marker::Model;
 use transport::{Assembly, Took};
 
-/// A VIN of which some packets were read, and whose it is.
+/// An identification of which some packets were read, whose it is, and which one.
 #[derive(Drop)]
-pub(crate) struct HalfVin {
-    who: Who,
+pub(crate) struct HalfText {
+    teller: Teller,
     assembly: Assembly,
 }
 
-impl Model for HalfVin {
+impl Model for HalfText {
     ghost use Rattle.std.specs.Prelude.{IsSome};
     ghost use Rattle.reassembly.specs.Partials.{pieces_taken};
-    ghost use Rattle.bus_watch.specs.Vins.{HalfTold};
+    ghost use Rattle.bus_watch.specs.Identified.{HalfTold};
 
     ghost Value = { HalfTold };
 
-    ghost view = { λ h. record { tag = h.who; size = h.assembly.size; pieces = pieces_taken h.assembly.taken } };
+    ghost view = { λ h. record { tag = h.teller; size = h.assembly.size; pieces = pieces_taken h.assembly.taken } };
 
     ghost invariant = { λ h. IsSome h.assembly.taken };
 }
 
-impl HalfVin {
+impl HalfText {
     /// A message of this size, 9 to 1,785 bytes, of which nothing was read yet. It takes all the memory that its packets will need.
-    pub(crate) fn start(alloc: Global, who: Who, size: u16, pgn: Pgn) -> Result<HalfVin, AllocError>
+    pub(crate) fn start(
+        alloc: Global,
+        teller: Teller,
+        size: u16,
+        pgn: Pgn,
+    ) -> Result<HalfText, AllocError>
         requires least { 9 ≤ size }
         requires most { size ≤ 1785 }
-        ensures { IfOk result (λ h. h ≡ begun who size) }
+        ensures { IfOk result (λ h. h ≡ begun teller size) }
     {
         let assembly = Assembly::start(alloc, size, pgn)?;
-        Ok(HalfVin { who, assembly })
+        Ok(HalfText { teller, assembly })
     }
 
     /// Whose it is.
     pub(crate) fn who(&self) -> Who
-        ensures { result ≡ self.now.tag }
+        ensures { result ≡ self.now.tag.who }
     {
-        self.who
+        self.teller.who
     }
 
     /// What a packet is to the message. Nothing changes.
@@ -74,12 +81,16 @@ impl HalfVin {
         self.assembly.add(packet);
     }
 
-    /// The VIN of a message that is whole.
-    pub(crate) fn vin(&self) -> Vin
+    /// The text of a message that is whole.
+    pub(crate) fn text(&self) -> UnitText
         requires { IsTrue (is_whole self.now) }
-        ensures { result ≡ vin_of (joined self.now.size self.now.pieces) }
+        ensures { result ≡ record { teller = self.now.tag; text = text_of self.now.tag.what (joined self.now.size self.now.pieces) } }
     {
-        Vin::of(self.payload())
+        let text = ToldText::of(self.teller.what, self.payload());
+        UnitText {
+            teller: self.teller,
+            text,
+        }
     }
 
     /// Its payload.

@@ -36,6 +36,7 @@ A unit of the vehicle file may have, beside name, address and kind:
 
   lamps = \"04FF\"                   # the lamps' byte and the flash codes' byte
   active = [\"110/0\", \"190/2/3\"]    # SPN/FMI, or SPN/FMI/COUNT; so previous and pending
+  answers_violations = true         # claims again where another sends from its address, at most each 5 s
   [[unit.sends]]                    # a group that it sends again and again
   pgn = 61444                       # one that goes to all
   bytes = \"F07D84A61F00F07D\"        # 1 to 1785 bytes

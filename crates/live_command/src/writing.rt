@@ -179,6 +179,7 @@ fn parts_of(line: LiveLine) -> (u8, Groups) {
         answers,
         identification,
         fails,
+        answers_violations,
         ..
     } = line;
     let groups = Groups {
@@ -186,6 +187,7 @@ fn parts_of(line: LiveLine) -> (u8, Groups) {
         answers,
         identification,
         fails,
+        answers_violations,
     };
     (address, groups)
 }

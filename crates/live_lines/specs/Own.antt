@@ -9,12 +9,13 @@ use Rattle.transport.specs.declared.control.Control.{Control}
 use Rattle.transport.specs.declared.control.Control.TheVariants.{Abort, Cts, EndAck}
 use Rattle.vehicle.specs.Frames.{answer_frame, last_of_answer}
 use Rattle.live_unit.specs.Waits.{later}
+use Rattle.live_unit.specs.declared.aborting.TheConstants.{ASKED_TOO_OFTEN, CLEARED_WHILE_SENDING}
 use Rattle.live_unit.specs.declared.clock.TheConstants.{ANSWER_WITHIN, HELD_FOR}
 use Rattle.live_lines.specs.declared.answering.Again.{Again}
 use Rattle.live_lines.specs.declared.answering.Answering.{Answering}
 use Rattle.live_lines.specs.declared.own_broadcast.OwnBroadcast.{OwnBroadcast}
 use Rattle.live_lines.specs.declared.own_session.OwnSession.{OwnSession}
-use Rattle.live_lines.specs.declared.own_session.TheConstants.{ASKED_TOO_OFTEN, LEFT_ALONE, MOST_AGAIN}
+use Rattle.live_lines.specs.declared.own_session.TheConstants.{LEFT_ALONE, MOST_AGAIN}
 
 -- ---- what goes again and again
 
@@ -99,10 +100,14 @@ went s number = nat_le 1 number && nat_le number s.cleared && not (nat_le s.next
 abbrev pub times_asked : OwnSession → ℕ → ℕ
 times_asked s next = if nat_le next s.again then s.times else 0
 
+-- it is to end at once, for this reason
+abbrev pub session_ending : OwnSession → ℕ → ℕ → OwnSession
+session_ending s now reason = record s { next = s.until + 1; alone_from = now; reason = reason }
+
 -- packets are asked for again, from this one on: they go again; at the third time for one it ends with that reason
 abbrev pub session_again : OwnSession → ℕ → ℕ → ℕ → ℕ → OwnSession
 session_again s last granted next now =
-    if nat_le MOST_AGAIN (times_asked s next) then record s { next = s.until + 1; alone_from = now; reason = ASKED_TOO_OFTEN }
+    if nat_le MOST_AGAIN (times_asked s next) then session_ending s now ASKED_TOO_OFTEN
     else record s {
       next = next;
       until = through (next - 1) granted last;
@@ -111,13 +116,18 @@ session_again s last granted next now =
       times = times_asked s next + 1;
     }
 
--- a clear to send, where it is not to end: of none holds it open; of packets that went has them go again; else it is honoured where it names the first packet that was
--- not cleared yet
+-- a packet was cleared, and waits to go
+abbrev pub waits_to_go : OwnSession → ℕ → Bool
+waits_to_go s number = nat_le 1 number && nat_le number s.cleared && nat_le s.next number && nat_le number s.until
+
+-- a clear to send, where it is not to end: of none holds it open; of packets that went has them go again; of those that wait ends it; else it is honoured where
+-- it names the first packet that was not cleared yet
 abbrev pub session_cleared : OwnSession → ℕ → ℕ → ℕ → ℕ → OwnSession
 session_cleared s last granted next now =
-    if s.reason == ASKED_TOO_OFTEN then s
+    if not (s.reason == LEFT_ALONE) then s
     else if granted == 0 then record s { alone_from = later now HELD_FOR }
     else if went s next then session_again s last granted next now
+    else if waits_to_go s next then session_ending s now CLEARED_WHILE_SENDING
     else if next == s.cleared + 1 then record s {
       next = if s.until == s.cleared then s.next else next;
       until = through s.cleared granted last;

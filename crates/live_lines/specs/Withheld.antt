@@ -5,8 +5,9 @@ use Rattle.can_frame.specs.declared.address.TheConstants.{GLOBAL_ADDRESS, GREATE
 use Rattle.fault_memory.specs.Memory.{MemoryValue}
 use Rattle.dm_messages.specs.View.{pgn_of_kind}
 use Rattle.dm_messages.specs.declared.kind.Kind.TheVariants.{Dm1, Dm2, Dm6}
-use Rattle.parameter_group.specs.Group.{Request, group_of}
+use Rattle.parameter_group.specs.Group.{ConnectionManagement, Request, group_of}
 use Rattle.requests.specs.declared.request.Request.{Request as Asked}
+use Rattle.transport.specs.declared.control.Control.TheVariants.{Rts}
 
 -- a frame asks for this, of all or of who holds this address; who holds none is asked for nothing
 abbrev pub IsAskedOf : Option ℕ → FrameValue → Asked → Type 0
@@ -19,6 +20,16 @@ pub record IsAskedAlone (held : Option ℕ) (f : FrameValue) (r : Asked) : Type 
   pub alone : held ≡ Some r.dest
   pub other : r.source ≢ r.dest
   pub holdable : r.source ≤ GREATEST_ADDRESS
+
+-- it asks who holds this address for a session of a group, from an address that can be held
+pub record IsSessionAsked (held : Option ℕ) (f : FrameValue) (pgn source : ℕ) : Type 0 where
+  pub own : ℕ
+  pub size : ℕ
+  pub packets : ℕ
+  pub most : ℕ
+  pub at : held ≡ Some own
+  pub asks : group_of f ≡ ConnectionManagement source own (Rts size packets most pgn)
+  pub holdable : source ≤ GREATEST_ADDRESS
 
 -- a diagnostic message of this group has more than one code, so that it goes to one in a session
 abbrev pub IsOfSeveral : MemoryValue → ℕ → Type 0

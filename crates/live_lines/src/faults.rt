@@ -218,8 +218,23 @@ pub(crate) fn write_note<N: Write>(
     frame: &Frame,
 ) -> io::Result<()> {
     let word = word_of(deviation);
+    write!(notes, "unit {place} fails: {word} ")?;
+    write_frame(notes, frame)
+}
+
+/// Tells that a unit claims its address again, and the frame of another from that.
+pub(crate) fn write_violation<N: Write>(
+    notes: &mut N,
+    place: usize,
+    frame: &Frame,
+) -> io::Result<()> {
+    write!(notes, "unit {place} claims again: not its own ")?;
+    write_frame(notes, frame)
+}
+
+fn write_frame<N: Write>(notes: &mut N, frame: &Frame) -> io::Result<()> {
     let id = frame.id().number();
-    write!(notes, "unit {place} fails: {word} {id:08X}#")?;
+    write!(notes, "{id:08X}#")?;
     for byte in frame.bytes() {
         write!(notes, "{byte:02X}")?;
     }

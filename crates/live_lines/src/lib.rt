@@ -10,6 +10,7 @@ mod ear;
 mod failing;
 mod faults;
 mod fleet;
+mod member;
 mod on_bus;
 mod orders;
 mod own_broadcast;
@@ -19,6 +20,7 @@ mod playback;
 
 pub use beginning::{Unheld, begin_with};
 pub use ear::{Ear, HeardFrame};
-pub use fleet::{Fleet, Groups, ended_short};
+pub use fleet::{Fleet, ended_short};
+pub use member::Groups;
 pub use on_bus::{OnBus, Units};
 pub use playback::Playback;

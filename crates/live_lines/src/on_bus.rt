@@ -74,14 +74,14 @@ impl Units {
 
 /// They hear each other, pass over frames that were not read, and go on to the end of the lines.
 impl OnBus for Units {
-    fn hear<N: Write>(&mut self, alloc: Global, heard: &HeardFrame, now: u64, _notes: &mut N) {
-        self.fleet.hear(alloc, &heard.frame, now);
+    fn hear<N: Write>(&mut self, alloc: Global, heard: &HeardFrame, now: u64, notes: &mut N) {
+        self.fleet.hear(alloc, &heard.frame, now, notes);
     }
 
     fn miss<N: Write>(&mut self, _alloc: Global, _count: u32, _now: u64, _notes: &mut N) {}
 
-    fn echo<N: Write>(&mut self, alloc: Global, written: &HeardFrame, now: u64, _notes: &mut N) {
-        self.fleet.hear(alloc, &written.frame, now);
+    fn echo<N: Write>(&mut self, alloc: Global, written: &HeardFrame, now: u64, notes: &mut N) {
+        self.fleet.hear(alloc, &written.frame, now, notes);
     }
 
     fn step<N: Write>(&mut self, alloc: Global, now: u64, notes: &mut N) -> Option<Frame> {

@@ -10,6 +10,9 @@ use std::alloc::Global;
 use std::{fmt, str};
 use vehicle::{VehicleFault, read_fail};
 
+/// The number of the refusal `Unclaimed`, as a script's answers have it.
+const UNCLAIMED: u8 = 26;
+
 /// Who reads the lines of orders.
 #[derive(Drop)]
 pub struct OrderReader {
@@ -200,6 +203,7 @@ fn begun(made: Option<Result<bool, LiveError>>) -> Reply {
     match made {
         Some(Ok(true)) => Reply::Begun,
         Some(Ok(false)) => Reply::Held,
+        Some(Err(LiveError::OutOfMemory)) => Reply::Fault(FaultError::OutOfMemory),
         Some(Err(error)) => Reply::Unit(error),
         None => Reply::NoUnit,
     }
@@ -223,6 +227,7 @@ impl fmt::Display for Reply {
             Reply::BadLine => write!(f, "bad line"),
             Reply::NoUnit => write!(f, "no unit"),
             Reply::Fault(error) => write!(f, "refused {} {error}", error.number()),
+            Reply::Unit(LiveError::Unclaimed) => write!(f, "refused {UNCLAIMED} Unclaimed"),
             Reply::Unit(error) => write!(f, "refused {error}"),
         }
     }

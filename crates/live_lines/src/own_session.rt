@@ -5,15 +5,12 @@ ghost use Rattle.live_lines.specs.Own.{session_after_hearing, session_again, ses
 ghost use Rattle.live_lines.specs.Own as own;
 
 use can_frame::{Frame, Pgn};
-use live_unit::{ANSWER_WITHIN, HELD_FOR};
+use live_unit::{ANSWER_WITHIN, ASKED_TOO_OFTEN, CLEARED_WHILE_SENDING, HELD_FOR};
 use parameter_group::ParameterGroup;
 use transport::Control;
 
 /// The reason of an abort for want of an answer (SAE J1939-21).
 pub(crate) const LEFT_ALONE: u8 = 3;
-
-/// The reason of an abort where a packet was asked for too often (SAE J1939-21).
-pub(crate) const ASKED_TOO_OFTEN: u8 = 5;
 
 /// How often a packet is asked for again at most, where nothing behind it is.
 const MOST_AGAIN: u8 = 2;
@@ -125,7 +122,7 @@ impl OwnSession {
     fn cleared_to_send(self, last: u8, granted: u8, next: u8, now: u64) -> OwnSession
         ensures { result ≡ session_cleared self last granted next now }
     {
-        if self.reason == ASKED_TOO_OFTEN {
+        if self.reason != LEFT_ALONE {
             return self;
         }
         if granted == 0 {
@@ -136,6 +133,9 @@ impl OwnSession {
         }
         if self.went(next) {
             return self.asked_again(last, granted, next, now);
+        }
+        if self.waits_to_go(next) {
+            return self.ending(now, CLEARED_WHILE_SENDING);
         }
         if u16::from(next) != u16::from(self.cleared) + 1 {
             return self;
@@ -149,6 +149,28 @@ impl OwnSession {
             },
             until: cleared,
             cleared,
+            ..self
+        }
+    }
+
+    /// Whether a packet was cleared, and waits to go.
+    fn waits_to_go(&self, number: u8) -> bool
+        ensures { result ≡ own.waits_to_go self.now number }
+    {
+        1 <= number
+            && number <= self.cleared
+            && self.next <= u16::from(number)
+            && number <= self.until
+    }
+
+    /// The session where it is to end at once, for this reason.
+    fn ending(self, now: u64, reason: u8) -> OwnSession
+        ensures { result ≡ own.session_ending self now reason }
+    {
+        OwnSession {
+            next: u16::from(self.until) + 1,
+            alone_from: now,
+            reason,
             ..self
         }
     }
@@ -168,12 +190,7 @@ impl OwnSession {
     {
         let times = if next <= self.again { self.times } else { 0 };
         if times >= MOST_AGAIN {
-            return OwnSession {
-                next: u16::from(self.until) + 1,
-                alone_from: now,
-                reason: ASKED_TOO_OFTEN,
-                ..self
-            };
+            return self.ending(now, ASKED_TOO_OFTEN);
         }
         let until = through(next - 1, granted, last);
         OwnSession {

@@ -1,5 +1,5 @@
--- What asks for packets again.
-use Rattle.std.proofs.Common.{◌≡◌, ℕ, ◌+◌, ◌≤◌, ◌⊎◌, inl, inr, Bool, true, false, if◌then◌else◌, Option, Some, None, refl, sym, subst, arith}
+-- What asks for packets again, and what is answered with an abort.
+use Rattle.std.proofs.Common.{◌≡◌, ℕ, ◌+◌, ◌≤◌, ◌⊎◌, inl, inr, Bool, true, false, if◌then◌else◌, Option, Some, None, refl, sym, ◌∙◌, subst, arith}
 use Rattle.std.specs.Prelude.{◌&&◌, ◌||◌}
 use Rattle.std.proofs.lemmas.Bool.Decides.{nat_tests}
 use Rattle.can_frame.specs.FrameValue.{FrameValue}
@@ -11,9 +11,12 @@ use Rattle.node_core.specs.NodeValue.{NodeValue}
 use Rattle.node_core.specs.Reaction.{put_to}
 use Rattle.node_core.specs.declared.heard.Answer.{Answer}
 use Rattle.node_core.specs.declared.session.OpenSession.{OpenSession}
+use Rattle.live_unit.specs.Aborts.{abort_by, abort_by_control, ended_by_clear, ended_for}
+use Rattle.live_unit.specs.declared.aborting.OwedAbort.{OwedAbort}
+use Rattle.live_unit.specs.declared.aborting.TheConstants.{ASKED_TOO_OFTEN}
 use Rattle.live_unit.specs.Again.{WerePut, again_by, again_of, has_gone, is_beyond, is_too_often, of_grant}
 use Rattle.live_unit.specs.Queue.{LaneValue, QueueValue}
-use Rattle.live_unit.specs.Steps.{EndsAsked, HasHeardAgain, HasHeardBy, SendsAgain, Standing}
+use Rattle.live_unit.specs.Steps.{Aborts, HasHeardAgain, HasHeardBy, HasHeardUnless, SendsAgain, Standing, needs_room}
 use Rattle.live_unit.specs.declared.again.Retransmission.{Retransmission}
 use Rattle.live_unit.specs.declared.clock.Asked.{Asked}
 
@@ -72,8 +75,38 @@ asks_again node q Other r e = absurd cc
 pub heard_again : (o : Option Retransmission) (r : Retransmission) (f : FrameValue) (asked : Asked) (a : Answer) (u u' : Standing) → o ≡ Some r → HasHeardAgain r asked a u u' → HasHeardBy o f asked a u u'
 heard_again o r f asked a u u' e h = subst (λ (x : Option Retransmission). HasHeardBy x f asked a u u') (sym e) h
 
-pub ended : (r : Retransmission) (asked : Asked) (a : Answer) (u u' : Standing) (s : OpenSession) → u.node.session ≡ Some s → is_too_often asked r.first ≡ true → EndsAsked s a u u' → HasHeardAgain r asked a u u'
+pub ended : (r : Retransmission) (asked : Asked) (a : Answer) (u u' : Standing) (s : OpenSession) → u.node.session ≡ Some s → is_too_often asked r.first ≡ true → Aborts (ended_for ASKED_TOO_OFTEN s) a u u' → HasHeardAgain r asked a u u'
 ended r asked a u u' s e often h = record { session = s; of = e; again = λ n. absurd cc; ends = λ _. h }
 
 pub sent : (r : Retransmission) (asked : Asked) (a : Answer) (u u' : Standing) (s : OpenSession) → u.node.session ≡ Some s → is_too_often asked r.first ≡ false → SendsAgain r s a u u' → HasHeardAgain r asked a u u'
 sent r asked a u u' s e rare h = record { session = s; of = e; again = λ _. h; ends = λ n. absurd cc }
+
+-- ---- an abort is owed
+
+none : (b : Bool) (a : OwedAbort) (A : Type 0) → (if b then None else None) ≡ Some a → A
+none true a A e = absurd cc
+none false a A e = absurd cc
+
+-- what it is owed for may need room, and puts nothing to the unit
+pub owed_for : (node : NodeValue) (q : QueueValue) (g : Group) (a : OwedAbort) → abort_by node q g ≡ Some a → (needs_room g ≡ true) × (put_to node g ≡ None)
+owed_for node q (AddressClaimed source name) a e = absurd cc
+owed_for node q (CannotClaim name) a e = absurd cc
+owed_for node q (Request pgn destination source) a e = absurd cc
+owed_for node q (Acknowledgment control requester pgn destination source) a e = absurd cc
+owed_for node q (Diagnostic kind source bytes) a e = absurd cc
+owed_for node q (ConnectionManagement source destination (Rts size packets most pgn)) a e = (refl, refl)
+owed_for node q (ConnectionManagement source destination (Cts granted next pgn)) a e = (refl, refl)
+owed_for node q (ConnectionManagement source destination (EndAck size packets pgn)) a e = none (is_held node.claimer.held destination) a _ e
+owed_for node q (ConnectionManagement source destination (Bam size packets pgn)) a e = none (is_held node.claimer.held destination) a _ e
+owed_for node q (ConnectionManagement source destination (Abort reason pgn)) a e = none (is_held node.claimer.held destination) a _ e
+owed_for node q (DataTransfer source destination bytes) a e = absurd cc
+owed_for node q Other a e = absurd cc
+
+-- it was heard
+pub heard_unless : (o : Option OwedAbort) (owed : OwedAbort) (f : FrameValue) (asked : Asked) (a : Answer) (u u' : Standing) → o ≡ Some owed → Aborts owed a u u' → HasHeardUnless o f asked a u u'
+heard_unless o owed f asked a u u' e h = subst (λ (x : Option OwedAbort). HasHeardUnless x f asked a u u') (sym e) h
+
+-- it is that of the open session, whose sending is lent
+pub ended_same : (owed : OwedAbort) (s : OpenSession) (x : SendingValue) → owed ≡ record { reason = ASKED_TOO_OFTEN; pgn = x.pgn; dest = x.dest; ends = true }
+    → x ≡ s.sending → owed ≡ ended_for ASKED_TOO_OFTEN s
+ended_same owed s x e same = e ∙ rw same refl

@@ -4,5 +4,7 @@ pub mod Timing
 pub mod Lent
 pub mod Queues
 pub mod Asking
+pub mod Passing
+pub mod Echoes
 pub mod Repeating
 pub mod Telling

@@ -5,7 +5,7 @@ use Rattle.address_claim.specs.Claiming.{is_held}
 use Rattle.transport.specs.Messages.{control_frame}
 use Rattle.transport.specs.Sending.{SendingValue}
 use Rattle.transport.specs.declared.control.Control.{Control}
-use Rattle.transport.specs.declared.control.Control.TheVariants.{Abort, Cts}
+use Rattle.transport.specs.declared.control.Control.TheVariants.{Cts}
 use Rattle.parameter_group.specs.Group.{Group, ConnectionManagement}
 use Rattle.node_core.specs.Deed.{marked_parts}
 use Rattle.node_core.specs.NodeValue.{NodeValue}
@@ -17,7 +17,7 @@ use Rattle.node_core.specs.declared.out.Part.TheVariants as part
 use Rattle.node_core.specs.declared.session.OpenSession.{OpenSession}
 use Rattle.live_unit.specs.declared.clock.Asked.{Asked}
 use Rattle.live_unit.specs.declared.again.Retransmission.{Retransmission}
-use Rattle.live_unit.specs.declared.again.TheConstants.{ASKED_TOO_OFTEN, MOST_AGAIN}
+use Rattle.live_unit.specs.declared.again.TheConstants.{MOST_AGAIN}
 use Rattle.live_unit.specs.Queue.{LaneValue, QueueValue}
 
 -- ---- what is asked for again
@@ -99,7 +99,3 @@ parts_again s source r = marked_parts (λ j. part.Session j) s.payload s.pgn sou
 -- the rest is what a clear to send asks for that names the first packet not yet put; where all 255 were, there is none
 abbrev pub rest_again : SendingValue → ℕ → Retransmission → FrameValue
 rest_again s source r = control_frame (Cts r.rest (min (s.queued + 1) 255) s.pgn) s.dest source
-
--- the abort of a session of which the same packet was asked for too often
-abbrev pub abort_too_often : SendingValue → ℕ → FrameValue
-abort_too_often s source = control_frame (Abort ASKED_TOO_OFTEN s.pgn) source s.dest

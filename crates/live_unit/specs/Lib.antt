@@ -3,6 +3,9 @@ pub mod Queue
 pub mod Waits
 pub mod Telling
 pub mod Again
+pub mod Aborts
+pub mod Echoes
+pub mod Violations
 pub mod Times
 pub mod Steps
 pub mod Beside

@@ -31,7 +31,10 @@ use Rattle.live_unit.specs.declared.queue.Lane.{Lane}
 use Rattle.live_unit.specs.declared.queue.TheConstants.{MOST_PUT}
 use Rattle.live_unit.specs.declared.node.Act.{Act}
 use Rattle.live_unit.specs.declared.node.Act.TheVariants as act
-use Rattle.live_unit.specs.Again.{abort_too_often, again_by, asked_then, is_too_often, parts_again, rest_again}
+use Rattle.live_unit.specs.declared.aborting.OwedAbort.{OwedAbort}
+use Rattle.live_unit.specs.declared.aborting.TheConstants.{ASKED_TOO_OFTEN}
+use Rattle.live_unit.specs.Aborts.{abort_by, abort_of, ended_for, withdrawn_for}
+use Rattle.live_unit.specs.Again.{again_by, asked_then, is_too_often, parts_again, rest_again}
 use Rattle.live_unit.specs.Queue.{HasFreeLanes, QueueValue, TakesFirst, claiming_anew, lane_of, putting, after_heard, after_withdrawing}
 use Rattle.live_unit.specs.Telling.{after_telling}
 use Rattle.live_unit.specs.Times.{clock_after_hearing, clock_cut, clock_written, is_cut, is_dm1_due, is_left_alone, lane_due}
@@ -76,28 +79,33 @@ pub record SendsAgain (r : Retransmission) (s : OpenSession) (answer : Answer) (
       (putting false (parts_again s.sending (claim_source u.node.claimer.held) r)
       (after_withdrawing withdraw.Session (claim_source u.node.claimer.held) u.queue))
 
--- the open session ends by an abort (reason 5)
-pub record EndsAsked (s : OpenSession) (answer : Answer) (u u' : Standing) : Type 0 where
+-- an abort is owed: it is put, and the open session ends by it or stays as it is
+pub record Aborts (owed : OwedAbort) (answer : Answer) (u u' : Standing) : Type 0 where
   pub unasked : answer ≡ NotAsked
-  pub node : u'.node ≡ after_deed u.node EndsSession
+  pub node : u'.node ≡ (if owed.ends then after_deed u.node EndsSession else u.node)
   pub memory : u'.memory ≡ u.memory
-  pub queue : u'.queue ≡ putting false (plain (abort_too_often s.sending (claim_source u.node.claimer.held)) ∷ [])
-      (after_withdrawing withdraw.Session (claim_source u.node.claimer.held) u.queue)
+  pub queue : u'.queue ≡ putting false (plain (abort_of owed (claim_source u.node.claimer.held)) ∷ [])
+      (after_withdrawing (withdrawn_for owed) (claim_source u.node.claimer.held) u.queue)
 
 -- packets of the open session were asked for again: they go again, but that the session ends where it was for one too often
 pub record HasHeardAgain (r : Retransmission) (asked : Asked) (answer : Answer) (u u' : Standing) : Type 0 where
   pub session : OpenSession
   pub of : u.node.session ≡ Some session
   pub again : is_too_often asked r.first ≡ false → SendsAgain r session answer u u'
-  pub ends : is_too_often asked r.first ≡ true → EndsAsked session answer u u'
+  pub ends : is_too_often asked r.first ≡ true → Aborts (ended_for ASKED_TOO_OFTEN session) answer u u'
 
--- a frame was heard, by a unit that was asked for packets so often: what asks for packets again, or any other
+-- a frame was heard, by a unit that was asked for packets so often: what asks for packets again, or any other, where no abort is owed for it
 abbrev pub HasHeardBy : Option Retransmission → FrameValue → Asked → Answer → Standing → Standing → Type 0
 HasHeardBy (Some r) f asked answer u u' = HasHeardAgain r asked answer u u'
 HasHeardBy None f asked answer u u' = HasHeardBesides f answer u u'
 
+abbrev pub HasHeardUnless : Option OwedAbort → FrameValue → Asked → Answer → Standing → Standing → Type 0
+HasHeardUnless (Some owed) f asked answer u u' = Aborts owed answer u u'
+HasHeardUnless None f asked answer u u' = HasHeardBy (again_by u.node u.queue (group_of f)) f asked answer u u'
+
+-- a frame was heard: it is answered with an abort, or not
 abbrev pub HasHeardFrame : FrameValue → Asked → Answer → Standing → Standing → Type 0
-HasHeardFrame f asked answer u u' = HasHeardBy (again_by u.node u.queue (group_of f)) f asked answer u u'
+HasHeardFrame f asked answer u u' = HasHeardUnless (abort_by u.node u.queue (group_of f)) f asked answer u u'
 
 -- the times after a frame was heard by the unit of this NAME: what it was and what waited before and after that
 abbrev pub clock_heard : FrameValue → ℕ → ℕ → NodeValue → QueueValue → NodeValue → QueueValue → UnitClock → UnitClock

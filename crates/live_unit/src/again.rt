@@ -2,12 +2,11 @@
 ghost use Rattle.std.specs.Prelude.{◌≡◌, ◌≤◌, ◌<◌, ◌+◌, ◌==◌, ◌&&◌, nat_le, nat_lt, slice_get, IfErr, IfOk, OnErr, Some, length};
 ghost use Rattle.address_claim.specs.Frames.{claim_source};
 ghost use Rattle.parameter_group.specs.Group.{group_of};
-ghost use Rattle.fault_memory.specs.Memory.{MemoryValue};
 ghost use Rattle.node_core.specs.declared.session.OpenSession.{OpenSession as AnySession};
 ghost use Rattle.transport.specs.Pieces.{packet_count};
 ghost use Rattle.live_unit.specs.Again.{WerePut};
 ghost use Rattle.live_unit.specs.Queue.{HasFreeLanes};
-ghost use Rattle.live_unit.specs.Steps.{EndsAsked, SendsAgain, standing};
+ghost use Rattle.live_unit.specs.Steps.{SendsAgain, standing};
 ghost use Rattle.live_unit.specs.Again as spec;
 
 use crate::error::LiveError;
@@ -19,9 +18,6 @@ use parameter_group::ParameterGroup;
 use std::alloc::{AllocError, Global};
 use transport::{Control, Payload, Run, Sending, control_frame};
 use unit_trait::Unit;
-
-/// The reason of an abort where the same packet was asked for too often (SAE J1939-21, connection abort).
-pub(crate) const ASKED_TOO_OFTEN: u8 = 5;
 
 /// How often a packet is sent again at most, where none behind it is asked for meanwhile.
 pub(crate) const MOST_AGAIN: u8 = 2;
@@ -117,7 +113,7 @@ fn is_end(first: u64, count: u64, end: u64) -> bool
 }
 
 /// Whether it is among those of the session that wait.
-fn waits(queue: &Queue, number: u8) -> bool
+pub(crate) fn waits(queue: &Queue, number: u8) -> bool
     ensures { result ≡ spec.waits_in queue.now.session number }
 {
     is_within(
@@ -206,17 +202,6 @@ fn rest_again(sending: &Sending, source: u8, again: Retransmission) -> Frame
     control_frame(cts, sending.dest(), source)
 }
 
-/// The abort of a session of which the same packet was asked for too often.
-fn abort_too_often(sending: &Sending, source: u8) -> Frame
-    ensures { result ≡ spec.abort_too_often sending.now source }
-{
-    let abort = Control::Abort {
-        reason: ASKED_TOO_OFTEN,
-        pgn: sending.pgn(),
-    };
-    control_frame(abort, source, sending.dest())
-}
-
 /// Has packets of the open session go again: what of it waits is withdrawn, those that were put before are put once more, and the
 /// node hears of the rest. Answers what that says.
 ///
@@ -253,24 +238,4 @@ pub(crate) fn send_again(
     queue.put(put, false);
     queue.take_in(heard, source_of(node));
     Ok(answer)
-}
-
-/// Ends the open session by an abort: the same packet was asked for too often.
-pub(crate) fn end_asked(node: &mut Node, queue: &mut Queue)
-    requires sourced { queue.old.source ≡ claim_source node.old.claimer.held }
-    requires few { queue.old.put < MOST_PUT }
-    requires room { HasFreeLanes queue.old }
-    ensures ends { (s : AnySession) (m : MemoryValue) → node.old.session ≡ Some s
-        → EndsAsked s Answer.NotAsked (standing node.old m queue.old) (standing node.new m queue.new) }
-    ensures sourced { queue.new.source ≡ claim_source node.new.claimer.held }
-{
-    let _before = node.held();
-    let source = source_of(node);
-    let Some(sending) = node.sending() else {
-        return;
-    };
-    let abort = abort_too_often(sending, source);
-    let _ = node.give_up();
-    queue.withdraw(Withdraw::Session, source);
-    queue.put(Outs::plain(abort), false);
 }

@@ -8,29 +8,29 @@ ghost use Rattle.node_core.specs.Reaction.{question};
 ghost use Rattle.parameter_group.specs.Group.{group_of};
 ghost use Rattle.node_core.specs.Deed.{plain};
 ghost use Rattle.live_unit.specs.Queue.{HasFreeLanes, empty_queue, frames_waiting, putting};
-ghost use Rattle.node_core.specs.Staying.{is_commanded_to_stay};
 ghost use Rattle.live_unit.specs.Again.{again_by};
-ghost use Rattle.live_unit.specs.Steps.{Acts, BeginsToAll, CanPut, GivesUp, HasHeardBesides, HasHeardFrame, HasHeardInFull, HasStayed, LacksRoomFor, Writes, clock_heard, standing};
+ghost use Rattle.live_unit.specs.Steps.{Acts, BeginsToAll, CanPut, GivesUp, HasHeardBy, HasHeardFrame, LacksRoomFor, Writes, clock_heard, standing};
 ghost use Rattle.live_unit.specs.Steps as steps;
 ghost use Rattle.live_unit.specs.Times.{clock_at_start, is_dm1_due, is_free_for_dm1, is_left_alone, lane_due};
 ghost use Rattle.live_unit.specs.Telling as telling;
 ghost use Rattle.live_unit.specs.Times as times;
 
-use crate::again::{Retransmission, again_by, end_asked, send_again};
+use crate::aborting::{abort, abort_by, end_asked};
+use crate::again::{Retransmission, again_by, send_again};
 use crate::clock::{UnitClock, UnitSettings};
 use crate::error::LiveError;
+use crate::hearing::{hear_frame, needs_room};
 use crate::queue::{Lane, MOST_PUT, Queue, QueueCounts};
 use can_frame::{Frame, NULL_ADDRESS};
 use dm_messages::Kind;
 use fault_memory::FaultMemory;
 use name_field::Name;
 use node_core::{Answer, Node, Outs, Part, Started};
-use parameter_group::ParameterGroup;
 use std::alloc::{AllocError, Global};
-use transport::Control;
 use unit_trait::Unit;
 
 mod beside;
+mod passing;
 
 /// What a unit did of its own accord.
 #[derive(Clone, Copy, PartialEq, Eq)]
@@ -104,7 +104,8 @@ impl LiveNode {
     /// it, in one call, and is else as it was. A frame of its own, which the bus told it of, it hears as any other: it owes nothing
     /// for it. A command to hold the address that is held cuts nothing: its claim goes, where the unit agreed (SAE J1939-81).
     /// A clear to send of packets of its session that went already has these go again, twice at most for the same packet: then the
-    /// session ends by an abort of reason 5 (SAE J1939-21).
+    /// session ends by an abort of reason 5; of packets that wait, it ends it with reason 4. While a session is open a request to
+    /// send is refused with reason 1 (SAE J1939-21, connection abort).
     ///
     /// Refused: `Full`, where as much waits as there is room for and the frame is a request, a request to send or a clear to send;
     /// `OutOfMemory`. Then nothing changed, and the unit was not asked.
@@ -137,7 +138,7 @@ impl LiveNode {
         let has_session = self.node.session().is_some();
         let again = again_by(&self.node, &self.queue, frame);
         let before = self.node.held();
-        let answer = self.hear_any(alloc, frame, again, unit)?;
+        let answer = self.hear_unless(alloc, frame, again, unit)?;
         let after = self.node.held();
         let is_cut = waited && !self.queue.waits(Lane::Messages);
         self.clock
@@ -147,7 +148,38 @@ impl LiveNode {
         Ok(answer)
     }
 
-    /// Hears a frame, for which there is room, that asks for these packets again, or for none.
+    /// Hears a frame, for which there is room, that asks for these packets again, or for none; where an abort is owed for it, that
+    /// is put.
+    ///
+    /// Where memory is refused nothing changed, and the unit was not asked.
+    fn hear_unless(
+        &mut self,
+        alloc: Global,
+        frame: &Frame,
+        again: Option<Retransmission>,
+        unit: &mut dyn Unit,
+    ) -> Result<Answer, LiveError>
+        requires few { self.old.queue.put < MOST_PUT }
+        requires room { (steps.needs_room (group_of frame.now) ≡ false) ⊎ HasFreeLanes self.old.queue }
+        requires again { again ≡ again_by self.old.node self.old.queue (group_of frame.now) }
+        ensures heard { IfOk result (λ a. HasHeardFrame frame.now self.old.clock.asked a
+            (standing self.old.node (memory_of unit.old) self.old.queue) (standing self.new.node (memory_of unit.new) self.new.queue)) }
+        ensures asked { IfOk result (λ a. (u : _) × (unit.new ≡ (unit.old.0, u))
+            × IsAsked (Answers unit.old) (question self.old.node frame.now) a unit.old.1 u) }
+        ensures name { name_of unit.new ≡ name_of unit.old }
+        ensures same { (self.new.clock ≡ self.old.clock) × (self.new.settings ≡ self.old.settings) }
+        ensures only { IfErr result (λ e. e ≡ LiveError.OutOfMemory) }
+        ensures err { OnErr result ((self.new.node ≡ self.old.node) × (self.new.queue ≡ self.old.queue)) }
+        ensures unasked { OnErr result (unit.new ≡ unit.old) }
+    {
+        let Some(owed) = abort_by(&self.node, &self.queue, frame) else {
+            return self.hear_any(alloc, frame, again, unit);
+        };
+        abort(&mut self.node, &mut self.queue, &owed);
+        Ok(Answer::NotAsked)
+    }
+
+    /// Hears a frame, for which there is room and no abort is owed, that asks for these packets again, or for none.
     ///
     /// Where memory is refused nothing changed, and the unit was not asked.
     fn hear_any(
@@ -160,7 +192,7 @@ impl LiveNode {
         requires few { self.old.queue.put < MOST_PUT }
         requires room { (steps.needs_room (group_of frame.now) ≡ false) ⊎ HasFreeLanes self.old.queue }
         requires again { again ≡ again_by self.old.node self.old.queue (group_of frame.now) }
-        ensures heard { IfOk result (λ a. HasHeardFrame frame.now self.old.clock.asked a
+        ensures heard { IfOk result (λ a. HasHeardBy again frame.now self.old.clock.asked a
             (standing self.old.node (memory_of unit.old) self.old.queue) (standing self.new.node (memory_of unit.new) self.new.queue)) }
         ensures asked { IfOk result (λ a. (u : _) × (unit.new ≡ (unit.old.0, u))
             × IsAsked (Answers unit.old) (question self.old.node frame.now) a unit.old.1 u) }
@@ -365,88 +397,6 @@ impl LiveNode {
     }
 }
 
-/// Has a node hear a frame, and withdraws and puts what it withdraws and puts; answers what the unit answered.
-///
-/// A command to hold the address that is held withdraws nothing but claims that wait, in whose place its claim is put.
-/// Where memory is refused nothing changed, and the unit was not asked.
-fn hear_frame(
-    node: &mut Node,
-    queue: &mut Queue,
-    alloc: Global,
-    frame: &Frame,
-    unit: &mut dyn Unit,
-) -> Result<Answer, LiveError>
-    requires sourced { queue.old.source ≡ claim_source node.old.claimer.held }
-    requires few { queue.old.put < MOST_PUT }
-    requires room { (steps.needs_room (group_of frame.now) ≡ false) ⊎ HasFreeLanes queue.old }
-    ensures heard { IfOk result (λ a. HasHeardBesides frame.now a (standing node.old (memory_of unit.old) queue.old)
-        (standing node.new (memory_of unit.new) queue.new)) }
-    ensures asked { IfOk result
-        (λ a. (u : _) × (unit.new ≡ (unit.old.0, u)) × IsAsked (Answers unit.old) (question node.old frame.now) a unit.old.1 u) }
-    ensures sourced { queue.new.source ≡ claim_source node.new.claimer.held }
-    ensures name { name_of unit.new ≡ name_of unit.old }
-    ensures only { IfErr result (λ e. e ≡ LiveError.OutOfMemory) }
-    ensures err { OnErr result ((node.new ≡ node.old) × (queue.new ≡ queue.old)) }
-    ensures unasked { OnErr result (unit.new ≡ unit.old) }
-{
-    if node.is_commanded_to_stay(frame) {
-        return Ok(stay(node, queue, frame, unit));
-    }
-    hear_in_full(node, queue, alloc, frame, unit)
-}
-
-/// Has a node hear a command to hold the address that it holds, and puts its claim where the unit agrees; answers what the unit
-/// answered.
-fn stay(node: &mut Node, queue: &mut Queue, frame: &Frame, unit: &mut dyn Unit) -> Answer
-    requires commanded { is_commanded_to_stay node.old (group_of frame.now) ≡ true }
-    requires sourced { queue.old.source ≡ claim_source node.old.claimer.held }
-    requires few { queue.old.put < MOST_PUT }
-    ensures stays { HasStayed frame.now result (standing node.old (memory_of unit.old) queue.old)
-        (standing node.new (memory_of unit.new) queue.new) }
-    ensures asked { (u : _) × (unit.new ≡ (unit.old.0, u)) × IsAsked (Answers unit.old) (question node.old frame.now) result unit.old.1 u }
-    ensures sourced { queue.new.source ≡ claim_source node.new.claimer.held }
-    ensures name { name_of unit.new ≡ name_of unit.old }
-{
-    let _before = node.held();
-    let Some(answer) = node.hear_command_to_stay(frame, unit) else {
-        unreachable!()
-    };
-    if answer == Answer::Agreed {
-        queue.claim_anew(node.start());
-    }
-    answer
-}
-
-/// Has a node hear a frame that is no such command, and withdraws and puts what it withdraws and puts.
-///
-/// Where memory is refused nothing changed, and the unit was not asked.
-fn hear_in_full(
-    node: &mut Node,
-    queue: &mut Queue,
-    alloc: Global,
-    frame: &Frame,
-    unit: &mut dyn Unit,
-) -> Result<Answer, LiveError>
-    requires sourced { queue.old.source ≡ claim_source node.old.claimer.held }
-    requires few { queue.old.put < MOST_PUT }
-    requires room { (steps.needs_room (group_of frame.now) ≡ false) ⊎ HasFreeLanes queue.old }
-    ensures heard { IfOk result (λ a. HasHeardInFull frame.now a (standing node.old (memory_of unit.old) queue.old)
-        (standing node.new (memory_of unit.new) queue.new)) }
-    ensures asked { IfOk result
-        (λ a. (u : _) × (unit.new ≡ (unit.old.0, u)) × IsAsked (Answers unit.old) (question node.old frame.now) a unit.old.1 u) }
-    ensures sourced { queue.new.source ≡ claim_source node.new.claimer.held }
-    ensures name { name_of unit.new ≡ name_of unit.old }
-    ensures only { IfErr result (λ e. e ≡ LiveError.OutOfMemory) }
-    ensures err { OnErr result ((node.new ≡ node.old) × (queue.new ≡ queue.old)) }
-    ensures unasked { OnErr result (unit.new ≡ unit.old) }
-{
-    let _before = node.held();
-    let heard = node.hear(alloc, frame, unit)?;
-    let answer = heard.answer;
-    queue.take_in(heard, source_of(node));
-    Ok(answer)
-}
-
 /// Begins a message of the unit's fault memory to all; answers whether it did: not while a session of that kind is open.
 ///
 /// Refused: `Unclaimed`, `OutOfMemory`; then nothing changed.
@@ -487,19 +437,6 @@ pub(crate) fn source_of(node: &Node) -> u8
     match node.held() {
         Some(address) => address,
         None => NULL_ADDRESS,
-    }
-}
-
-/// Whether a frame is one for which a unit may put something beside what waits.
-fn needs_room(frame: &Frame) -> bool
-    ensures { result ≡ steps.needs_room (group_of frame.now) }
-{
-    match ParameterGroup::read(frame) {
-        ParameterGroup::Request(_) => true,
-        ParameterGroup::ConnectionManagement { control, .. } => {
-            matches!(control, Control::Rts { .. } | Control::Cts { .. })
-        }
-        _ => false,
     }
 }
 

@@ -1,17 +1,21 @@
-ghost use Rattle.std.specs.Prelude.{ℕ, ◌≡◌, ◌∷◌, ◌⊎◌, ◌≤◌, ◌<◌, ◌+◌, ◌↔◌, [], false, true, is_some, IfErr, IfOk, IfSome, IsErrOf, IsNone, MatchOption, None, Ok, OnErr, OnOk};
+ghost use Rattle.std.specs.Prelude.{ℕ, ◌≡◌, ◌∷◌, ◌⊎◌, ◌≤◌, ◌<◌, ◌+◌, ◌↔◌, [], false, true, is_some, IfErr, IfOk, IfSome, IsFalse, IsTrue, IsErrOf, IsNone, MatchOption, None, Ok, OnErr, OnOk};
 ghost use Rattle.can_frame.specs.Fields.{source_of};
+ghost use Rattle.can_frame.specs.FrameValue.{FrameValue};
 ghost use Rattle.can_frame.specs.declared.address.TheConstants.{GREATEST_ADDRESS};
-ghost use Rattle.address_claim.specs.Frames.{claim_source};
+ghost use Rattle.address_claim.specs.Frames.{claim_frame_value, claim_source};
 ghost use Rattle.fault_memory.specs.Changes.{changed, Grows};
 ghost use Rattle.fault_memory.specs.declared.error.FaultError.{FaultError as AnyFault};
 ghost use Rattle.node_core.specs.Asking.{IsAsked};
 ghost use Rattle.node_core.specs.NodeValue.{is_open, new_node};
+ghost use Rattle.node_core.specs.Passing.{IsAcceptance};
 ghost use Rattle.node_core.specs.Reaction.{question};
 ghost use Rattle.node_core.specs.Deed.{plain};
 ghost use Rattle.node_core.specs.Requested.{acknowledgment};
 ghost use Rattle.requests.specs.declared.acknowledgment.TheConstants.Ack.{CANNOT_RESPOND};
 ghost use Rattle.live_unit.specs.Beside.{is_silent, is_withheld, tells_several};
-ghost use Rattle.live_unit.specs.Queue.{frames_waiting, putting, waits};
+ghost use Rattle.live_unit.specs.Aborts.{abort_of, refused_beside};
+ghost use Rattle.live_unit.specs.Queue.{claiming_anew, frames_waiting, putting, waits};
+ghost use Rattle.live_unit.specs.declared.queue.TheConstants.{MOST_PUT};
 ghost use Rattle.live_unit.specs.Steps.{Acts, BeginsToAll, CanPut, HasHeardFrame, LacksRoomFor, Writes, clock_heard, standing};
 ghost use Rattle.live_unit.specs.Times.{is_dm1_due, is_left_alone, lane_due};
 ghost use Rattle.live_unit.specs.Times as times;
@@ -27,7 +31,7 @@ use can_frame::{Frame, Pgn};
 use dm_messages::Kind;
 use fault_memory::{FaultChange, FaultError, FaultMemory};
 use name_field::Name;
-use node_core::Answer;
+use node_core::{Acceptance, Answer};
 use std::alloc::{AllocError, Global};
 use unit_trait::Unit;
 
@@ -107,6 +111,22 @@ impl LiveUnit {
         ensures unasked { OnErr result (self.new.unit ≡ self.old.unit) }
     {
         hear_in(&mut self.live, alloc, frame, now, &mut self.unit)
+    }
+
+    /// Passes over a frame, by its acceptance, as `LiveNode::pass_over` does; answers whether it could.
+    pub fn pass_over(&mut self, acceptance: &Acceptance) -> bool
+        requires { Unit {0} }
+        ensures heard { IsTrue result → (f : FrameValue) → IsAcceptance acceptance.now f → HasHeardFrame f self.old.live.clock.asked Answer.NotAsked
+            (standing self.old.live.node (memory_of self.old.unit) self.old.live.queue)
+            (standing self.new.live.node (memory_of self.new.unit) self.new.live.queue) }
+        ensures clock { IsTrue result → (f : FrameValue) (now : ℕ) → IsAcceptance acceptance.now f
+            → self.new.live.clock ≡ clock_heard f (name_of self.old.unit) now self.old.live.node self.old.live.queue
+            self.new.live.node self.new.live.queue self.old.live.clock }
+        ensures left { IsFalse result → (self.new.live.node ≡ self.old.live.node) × (self.new.live.clock ≡ self.old.live.clock) }
+        ensures same { (self.new.unit ≡ self.old.unit) × (self.new.live.queue ≡ self.old.live.queue)
+            × (self.new.live.settings ≡ self.old.live.settings) }
+    {
+        self.live.pass_over(acceptance)
     }
 
     /// The frame that goes at this time, if one does, as `LiveNode::due` has it.
@@ -223,6 +243,42 @@ impl LiveUnit {
         ensures err { OnErr result (self.new.live.queue ≡ self.old.live.queue) }
     {
         self.live.refuse(pgn, asker)
+    }
+
+    /// Refuses a session to who asks for one, as `LiveNode::refuse_session` does.
+    ///
+    /// Refused: `Full`, `Unclaimed`. Then nothing changed.
+    pub fn refuse_session(&mut self, pgn: Pgn, asker: u8) -> Result<(), LiveError>
+        requires { Unit {0} }
+        ensures refused { OnOk result (self.new.live.queue ≡ putting false
+            (plain (abort_of (refused_beside asker pgn) (claim_source self.old.live.node.claimer.held)) ∷ []) self.old.live.queue) }
+        ensures same { (self.new.unit ≡ self.old.unit) × (self.new.live.node ≡ self.old.live.node)
+            × (self.new.live.clock ≡ self.old.live.clock) × (self.new.live.settings ≡ self.old.live.settings) }
+        ensures full { IsErrOf result LiveError.Full ↔ (¬ CanPut self.old.live.queue) }
+        ensures unclaimed { IsErrOf result LiveError.Unclaimed
+            ↔ (CanPut self.old.live.queue × IsNone self.old.live.node.claimer.held) }
+        ensures only { IfErr result (λ e. (e ≡ LiveError.Full) ⊎ (e ≡ LiveError.Unclaimed)) }
+        ensures err { OnErr result (self.new.live.queue ≡ self.old.live.queue) }
+    {
+        self.live.refuse_session(pgn, asker)
+    }
+
+    /// Claims the address that is held once more, as `LiveNode::claim_again` does.
+    ///
+    /// Refused: `Full`, `Unclaimed`. Then nothing changed.
+    pub fn claim_again(&mut self) -> Result<(), LiveError>
+        requires { Unit {0} }
+        ensures claims { OnOk result (self.new.live.queue
+            ≡ claiming_anew (claim_frame_value self.old.live.node.claimer.name self.old.live.node.claimer.held) self.old.live.queue) }
+        ensures same { (self.new.unit ≡ self.old.unit) × (self.new.live.node ≡ self.old.live.node)
+            × (self.new.live.clock ≡ self.old.live.clock) × (self.new.live.settings ≡ self.old.live.settings) }
+        ensures full { IsErrOf result LiveError.Full ↔ (MOST_PUT ≤ self.old.live.queue.put) }
+        ensures unclaimed { IsErrOf result LiveError.Unclaimed
+            ↔ ((self.old.live.queue.put < MOST_PUT) × IsNone self.old.live.node.claimer.held) }
+        ensures only { IfErr result (λ e. (e ≡ LiveError.Full) ⊎ (e ≡ LiveError.Unclaimed)) }
+        ensures err { OnErr result (self.new.live.queue ≡ self.old.live.queue) }
+    {
+        self.live.claim_again()
     }
 
     /// The frame that goes at this time beside a message of several packets to all, as `LiveNode::due_beside` has it.

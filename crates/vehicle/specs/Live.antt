@@ -1,8 +1,8 @@
 -- Which units a TOML document describes, as they take part in a real bus.
-use Rattle.std.specs.Prelude.{ℕ, ◌≡◌, ◌≢◌, ◌⊎◌, ◌/◌, ◌%◌, ◌≤◌, ◌<◌, true, List, [], ◌∷◌, ◌++◌, Option, Some, None, codes, length}
+use Rattle.std.specs.Prelude.{ℕ, ◌≡◌, ◌≢◌, ◌⊎◌, ◌/◌, ◌%◌, ◌≤◌, ◌<◌, Bool, true, false, List, [], ◌∷◌, ◌++◌, Option, Some, None, codes, length}
 use Rattle.std.specs.List.{All, AllPairs}
 use Rattle.hex_text.specs.Hex.{IsHexText, hex_value}
-use Rattle.toml.specs.Data.{Data, get, as_str}
+use Rattle.toml.specs.Data.{Data, get, as_bool, as_str}
 use Rattle.script_line.specs.Numbers.{IsNumberBelow, SpellsNumber, decimal_value}
 use Rattle.unit_trait.specs.declared.kind.UnitKind.{UnitKind}
 use Rattle.trouble_code.specs.Code.{Code, IsCode}
@@ -104,15 +104,22 @@ pub record HoldsAnswer (d : Data) (a : AnswerLine) : Type 0 where
 abbrev pub HoldsAnswersAt : Option Data → List AnswerLine → Type 0
 HoldsAnswersAt = EachHoldsAt HoldsAnswer
 
+-- ---- violations of its address
+
+-- the answer at the key "answers_violations"; no where there is no such key
+abbrev pub HoldsViolationsAt : Option Data → Bool → Type 0
+HoldsViolationsAt None answers = answers ≡ false
+HoldsViolationsAt (Some d) answers = as_bool d ≡ Some answers
+
 -- ---- units
 
 -- the keys of a unit of a kind
 abbrev pub live_keys_of_kind : UnitKind → List (List ℕ)
 live_keys_of_kind kind = keys_by kind
     (codes "name" ∷ codes "address" ∷ codes "kind" ∷ codes "lamps" ∷ codes "active" ∷ codes "previous" ∷ codes "pending" ∷ codes "sends" ∷ codes "answers"
-    ∷ codes "fails" ∷ codes "vin" ∷ codes "component" ∷ codes "software" ∷ codes "ecu" ∷ [])
+    ∷ codes "fails" ∷ codes "vin" ∷ codes "component" ∷ codes "software" ∷ codes "ecu" ∷ codes "answers_violations" ∷ [])
     (codes "name" ∷ codes "address" ∷ codes "kind" ∷ codes "spn" ∷ codes "fmi" ∷ codes "lamps" ∷ codes "active" ∷ codes "previous" ∷ codes "pending" ∷ codes "sends" ∷ codes "answers"
-    ∷ codes "fails" ∷ codes "vin" ∷ codes "component" ∷ codes "software" ∷ codes "ecu" ∷ [])
+    ∷ codes "fails" ∷ codes "vin" ∷ codes "component" ∷ codes "software" ∷ codes "ecu" ∷ codes "answers_violations" ∷ [])
 
 -- the codes with which a unit begins
 pub record HoldsMemory (d : Data) (m : Memory) : Type 0 where
@@ -130,6 +137,7 @@ pub record HoldsRest (d : Data) (u : LiveLine) : Type 0 where
   pub answers : HoldsAnswersAt (get (codes "answers") d) u.answers.items
   pub identification : HoldsIdentification d u.identification
   pub fails : HoldsFailsAt (get (codes "fails") d) u.fails.items
+  pub violations : HoldsViolationsAt (get (codes "answers_violations") d) u.answers_violations
   pub apart : HaveDistinctGroups u.answers.items
   -- and none by which it tells what it is stands there too
   pub beside : All (λ a. IsBeside u.identification a.pgn) u.answers.items

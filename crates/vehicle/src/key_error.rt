@@ -61,6 +61,8 @@ pub(crate) enum KeyFault {
     NoText,
     /// It has no whole number.
     NoNumber,
+    /// It is neither true nor false.
+    NoBool,
     /// It has no array of tables.
     NoTables,
     /// It has no array of texts.
@@ -142,6 +144,7 @@ impl KeyFault {
             KeyFault::NoTable => "no table",
             KeyFault::NoText => "no text",
             KeyFault::NoNumber => "no whole number",
+            KeyFault::NoBool => "true or false",
             KeyFault::NoTables => "no array of tables",
             KeyFault::NoTexts => "no array of texts",
             KeyFault::NotName => "16 hexadecimal digits",

@@ -42,6 +42,7 @@
 //! component = "MAKE*MODEL*SERIAL*UNIT"
 //! software = "BOOT 1.2*APP 3.4"
 //! ecu = "PART*SERIAL*PLACE*TYPE*MAKER"
+//! answers_violations = true   # it claims again where another sends from its address; false where it is left out
 //!
 //! [[unit.answers]]            # a group that it sends where it is asked for it
 //! pgn = 65253                 # one that goes to all
@@ -98,6 +99,7 @@ mod room;
 mod send_line;
 mod sending;
 mod sends;
+mod violations;
 
 pub use answer_line::AnswerLine;
 pub use fail_line::{Deviation, FailLine};

@@ -21,6 +21,7 @@ use crate::long_line::CyclicLine;
 use crate::periods::look_at_periods;
 use crate::read::{fault_of, has_document_keys, items_at, read_station, read_unit_of, second_of};
 use crate::sends::read_sends;
+use crate::violations::read_violations;
 use name_field::Name;
 use std::alloc::Global;
 use toml::Value;
@@ -47,6 +48,8 @@ pub struct LiveLine {
     pub identification: Identification,
     /// What it does wrong on purpose.
     pub fails: Vec<FailLine>,
+    /// Whether it claims its address again where somebody else sends from it (SAE J1939-81 in its editions since 2011, from memory).
+    pub answers_violations: bool,
 }
 
 /// Reads the units of a vehicle's text, a TOML document, as they take part in a real bus.
@@ -55,7 +58,7 @@ pub struct LiveLine {
 /// Each table of the array `unit` may have, beside the keys that it reads, `lamps`, `active`, `previous` and `pending`, and an
 /// array of tables `sends` with the keys `pgn`, `bytes` and `period`, and `priority`, `checksum` and an array of tables `fields`, which
 /// may be left out, and an array of tables `answers` with `pgn` and `bytes` or `text`, and `priority`; an array of tables `fails`, as [`read_fail`](crate::read_fail) reads one; and `vin`, `component`, `software`
-/// and `ecu`, by which it tells what it is. No other key may stand anywhere. Whether a unit can hold its codes together is not looked at:
+/// and `ecu`, by which it tells what it is; and `answers_violations`, true or false. No other key may stand anywhere. Whether a unit can hold its codes together is not looked at:
 /// that no code stands twice, and that they are 445 at most.
 ///
 /// Packets go so many milliseconds apart (`gap`): of what a unit sends again and again in packets, each period is at least twice the
@@ -195,6 +198,7 @@ fn read_rest(
     let identification = read_identification(alloc, place, value)?;
     look_at_groups(number, &identification, answers.as_slice())?;
     let fails = read_fails(alloc, number, value)?;
+    let answers_violations = read_violations(place, value)?;
     match read_sends(alloc, number, value) {
         Ok(sends) => Ok(LiveLine {
             unit,
@@ -206,6 +210,7 @@ fn read_rest(
             answers,
             identification,
             fails,
+            answers_violations,
         }),
         Err(unread) => Err(unread),
     }
@@ -233,6 +238,7 @@ fn read_live_unit(place: KeyPlace, value: &Value) -> Result<UnitLine, ReadError<
             "component",
             "software",
             "ecu",
+            "answers_violations",
         ],
         &[
             "name",
@@ -251,6 +257,7 @@ fn read_live_unit(place: KeyPlace, value: &Value) -> Result<UnitLine, ReadError<
             "component",
             "software",
             "ecu",
+            "answers_violations",
         ],
     )
 }

@@ -409,6 +409,7 @@ fn why_not(place: KeyPlace, key: &str) -> KeyFault {
         "component",
         "software",
         "ecu",
+        "answers_violations",
     ];
     match place {
         KeyPlace::Unit(_) if is_among(key, of_live) => KeyFault::OfLive,

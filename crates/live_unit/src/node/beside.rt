@@ -1,17 +1,20 @@
 //! What a caller sends in a unit's name beside its node, and what the unit does meanwhile.
 ghost use Rattle.std.specs.Prelude.{ℕ, ◌≡◌, ◌∷◌, ◌⊎◌, ◌≤◌, ◌<◌, ◌↔◌, [], false, true, is_some, IfErr, IfOk, IfSome, IsErrOf, IsNone, MatchOption, None, Ok, OnErr, OnOk};
 ghost use Rattle.can_frame.specs.Fields.{source_of};
-ghost use Rattle.address_claim.specs.Frames.{claim_source};
+ghost use Rattle.address_claim.specs.Frames.{claim_frame_value, claim_source};
 ghost use Rattle.node_core.specs.Deed.{plain};
 ghost use Rattle.node_core.specs.Requested.{acknowledgment};
 ghost use Rattle.requests.specs.declared.acknowledgment.TheConstants.Ack.{CANNOT_RESPOND};
 ghost use Rattle.live_unit.specs.Beside.{is_silent, is_withheld, tells_several};
 ghost use Rattle.live_unit.specs.Beside as beside;
-ghost use Rattle.live_unit.specs.Queue.{putting, waits};
+ghost use Rattle.live_unit.specs.Aborts.{abort_of, refused_beside};
+ghost use Rattle.live_unit.specs.Queue.{claiming_anew, putting, waits};
+ghost use Rattle.live_unit.specs.declared.queue.TheConstants.{MOST_PUT};
 ghost use Rattle.live_unit.specs.Steps.{Acts, CanPut, Writes, standing};
 ghost use Rattle.live_unit.specs.Times.{is_dm1_due, is_left_alone, lane_due};
 
 use super::{Act, LiveNode, frame_from, source_of};
+use crate::aborting::{abort_of, refused_beside};
 use crate::error::LiveError;
 use crate::queue::Lane;
 use can_frame::{Frame, GLOBAL_ADDRESS, Pgn};
@@ -57,6 +60,52 @@ impl LiveNode {
         }
         let ack = refusal(pgn, asker, source_of(&self.node));
         self.queue.put(Outs::plain(ack), false);
+        Ok(())
+    }
+
+    /// Refuses a session to who asks for one, since one of its caller's is open: the abort of reason 1 is put (SAE J1939-21, from
+    /// memory).
+    ///
+    /// Refused: `Full`, `Unclaimed`. Then nothing changed.
+    pub fn refuse_session(&mut self, pgn: Pgn, asker: u8) -> Result<(), LiveError>
+        ensures refused { OnOk result (self.new.queue ≡ putting false
+            (plain (abort_of (refused_beside asker pgn) (claim_source self.old.node.claimer.held)) ∷ []) self.old.queue) }
+        ensures same { (self.new.node ≡ self.old.node) × (self.new.clock ≡ self.old.clock) × (self.new.settings ≡ self.old.settings) }
+        ensures full { IsErrOf result LiveError.Full ↔ (¬ CanPut self.old.queue) }
+        ensures unclaimed { IsErrOf result LiveError.Unclaimed ↔ (CanPut self.old.queue × IsNone self.old.node.claimer.held) }
+        ensures only { IfErr result (λ e. (e ≡ LiveError.Full) ⊎ (e ≡ LiveError.Unclaimed)) }
+        ensures err { OnErr result (self.new.queue ≡ self.old.queue) }
+    {
+        if !self.can_put() {
+            return Err(LiveError::Full);
+        }
+        if self.node.held().is_none() {
+            return Err(LiveError::Unclaimed);
+        }
+        let abort = abort_of(&refused_beside(asker, pgn), source_of(&self.node));
+        self.queue.put(Outs::plain(abort), false);
+        Ok(())
+    }
+
+    /// Claims the address that is held once more, though nobody asks for it: the claim is put in the place of claims that wait.
+    ///
+    /// Refused: `Full`, `Unclaimed`. Then nothing changed.
+    pub fn claim_again(&mut self) -> Result<(), LiveError>
+        ensures claims { OnOk result (self.new.queue
+            ≡ claiming_anew (claim_frame_value self.old.node.claimer.name self.old.node.claimer.held) self.old.queue) }
+        ensures same { (self.new.node ≡ self.old.node) × (self.new.clock ≡ self.old.clock) × (self.new.settings ≡ self.old.settings) }
+        ensures full { IsErrOf result LiveError.Full ↔ (MOST_PUT ≤ self.old.queue.put) }
+        ensures unclaimed { IsErrOf result LiveError.Unclaimed ↔ ((self.old.queue.put < MOST_PUT) × IsNone self.old.node.claimer.held) }
+        ensures only { IfErr result (λ e. (e ≡ LiveError.Full) ⊎ (e ≡ LiveError.Unclaimed)) }
+        ensures err { OnErr result (self.new.queue ≡ self.old.queue) }
+    {
+        if !self.queue.may_put() {
+            return Err(LiveError::Full);
+        }
+        if self.node.held().is_none() {
+            return Err(LiveError::Unclaimed);
+        }
+        self.queue.claim_anew(self.node.start());
         Ok(())
     }
 

@@ -1,7 +1,6 @@
 use Rattle.std.proofs.Common.{◌∙◌, ap, sym, refl}
 use Rattle.node_core.specs.declared.heard.Answer.TheVariants.{NotAsked}
 use Rattle.parameter_group.specs.Group.{group_of}
-use Rattle.live_unit.specs.Again.{again_by}
 use Rattle.live_unit.specs.Steps.{standing}
 use Rattle.live_unit.proofs.Asking.{asks_again, ended, heard_again}
 use Rattle.live_unit.proofs.Lent.{on_err}
@@ -13,7 +12,7 @@ returns-then-is_too_often-clause-heard g c =
     let e = sym c.requires.again ∙ c.in-Some.is in
     let open_one = (asks_again u.node u.queue (group_of c.args.frame.now) r e).0 in
     let before = standing u.node m u.queue in let after = standing c.end_asked.new.node m c.end_asked.new.queue in
-    heard_again (again_by u.node u.queue (group_of c.args.frame.now)) r c.args.frame.now u.clock.asked NotAsked before after e
+    heard_again c.args.again r c.args.frame.now u.clock.asked NotAsked before after c.in-Some.is
     (ended r u.clock.asked NotAsked before after open_one.0 open_one.1 (sym c.is_too_often.ensures ∙ c.if-is_too_often.true) (c.end_asked.ensures.ends open_one.0 m open_one.1))
 
 pub returns-then-is_too_often-clause-asked : goal.returns-then-is_too_often-clause-asked

@@ -5,7 +5,7 @@ use Rattle.live_unit.specs.Queue.{IsSentFrom, QueueValue}
 use Rattle.live_unit.proofs.Sources.{can_hold, heard_kept, heard_room, heard_source}
 use Rattle.live_unit.proofs.Lent.{on_err}
 use Rattle.live_unit.proofs.Queues.{source_queued}
-use Rattle.live_unit.proofs.node.hear_in_full.Goals as goal
+use Rattle.live_unit.proofs.hearing.hear_in_full.Goals as goal
 
 pub take_in-requires-clause-source : goal.take_in-requires-clause-source
 take_in-requires-clause-source g c =

@@ -1,5 +1,6 @@
 -- A station of its parts is one that begins.
 use Rattle.std.proofs.Common.{◌≡◌, ℕ, Bool, true, false, [], ◌∷◌, List, None, refl}
+use Rattle.live_unit.specs.Echoes.{EchoValue}
 use Rattle.live_unit.specs.Queue.{QueueValue, empty_queue, putting}
 use Rattle.live_unit.specs.Times.{clock_at_start}
 use Rattle.live_unit.specs.declared.clock.UnitClock.{UnitClock}
@@ -7,7 +8,7 @@ use Rattle.node_core.specs.Deed.{plain}
 use Rattle.station_table.specs.Reactions.{own_claim}
 use Rattle.station_table.specs.StationValue.{StationValue}
 use Rattle.station_table.specs.Steps.{new_station}
-use Rattle.live_station.specs.Working.{EchoValue, WorkingValue, begun_station}
+use Rattle.live_station.specs.Working.{WorkingValue, begun_station}
 use Rattle.live_station.specs.declared.times.StationTimes.{StationTimes}
 
 pub begun_of_parts : (name want grant : ℕ) (times : StationTimes) (s : StationValue) (q : QueueValue) (c : UnitClock) (e : EchoValue)

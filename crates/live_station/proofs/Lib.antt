@@ -9,4 +9,3 @@ pub mod Staying
 pub mod Owing
 pub mod Writing
 pub mod Beginning
-pub mod Echoes

@@ -1,11 +1,11 @@
 -- What a station does stays the same from one time to another, where each time that it waits for has come at both or at neither.
-use Rattle.std.proofs.Common.{◌≡◌, ℕ, Bool, true, false, ◌&&◌, nat_le, Option, Some, None, is_some, if◌then◌else◌, refl, ap, ◌∙◌}
-use Rattle.live_unit.specs.Queue.{QueueValue}
+use Rattle.std.proofs.Common.{◌≡◌, ℕ, Bool, true, false, not, ◌&&◌, nat_le, Option, Some, None, is_some, if◌then◌else◌, refl, ap, ◌∙◌}
+use Rattle.live_unit.specs.Queue.{QueueValue, waits}
 use Rattle.live_unit.specs.Times.{lane_due}
 use Rattle.live_unit.specs.declared.clock.UnitClock.{UnitClock}
 use Rattle.live_unit.specs.declared.queue.Lane.{Lane}
 use Rattle.live_station.specs.Turns.{StagesAlike, due_to_go, has_come, order_due, staged_due, to_command, to_go_by, to_go_from, to_one, unanswered}
-use Rattle.live_station.specs.Working.{WorkingValue, deed_turn, free_turn, is_settled, order_turn, outlook_of, turn_at, turn_behind}
+use Rattle.live_station.specs.Working.{WorkingValue, deed_turn, free_turn, has_nothing_waiting, is_at_rest, is_settled, order_turn, outlook_of, turn_at, turn_behind}
 use Rattle.live_station.specs.declared.order.Order.{Order}
 use Rattle.live_station.specs.declared.order.Order.TheVariants.{Ask, AskClaim, AskAll, AskAllClaims, Clear, Command}
 use Rattle.live_station.specs.declared.open.Asked.{Asked}
@@ -101,3 +101,44 @@ pub turn_alike : (s : WorkingValue) (t now : ℕ) → Alike s.clock.claim_from t
 turn_alike s t now a b c d o =
     ap (λ (l : Option Lane). turn_behind l t s) (lane_alike s.clock s.queue t now a b c)
     ∙ behind_alike (lane_due s.clock now s.queue) s t now b (free_alike s t now d o)
+
+-- ---- nothing waits, and nothing is asked for
+
+first_of : (a b : Bool) → (a && b) ≡ true → a ≡ true
+first_of true b e = refl
+first_of false b e = e
+
+rest_of : (a b : Bool) → (a && b) ≡ true → b ≡ true
+rest_of true b e = e
+rest_of false b e = absurd (let clash : false ≡ true = e in cc)
+
+is_not : (b : Bool) → not b ≡ true → b ≡ false
+is_not true e = absurd (let clash : false ≡ true = e in cc)
+is_not false e = refl
+
+is_none : (o : Option OpenOrder) → not (is_some o) ≡ true → o ≡ None
+is_none None e = refl
+is_none (Some o) e = absurd (let clash : false ≡ true = e in cc)
+
+either : (A : Type 0) (x : A) (b : Bool) → (if b then x else x) ≡ x
+either A x true = refl
+either A x false = refl
+
+no_lane : (c : UnitClock) (now : ℕ) (q : QueueValue) → waits q.claims ≡ false → waits q.singles ≡ false → waits q.session ≡ false → waits q.messages ≡ false
+    → lane_due c now q ≡ None
+no_lane c now q e f g h = rw (e, f, g, h) (either (Option Lane) None (nat_le c.settled_from now))
+
+none_goes : (c : UnitClock) (now : ℕ) (q : QueueValue) → has_nothing_waiting q ≡ true → lane_due c now q ≡ None
+none_goes c now q e =
+    (let others : (not (waits q.singles) && (not (waits q.session) && not (waits q.messages))) ≡ true = rest_of _ _ e in
+    let last : (not (waits q.session) && not (waits q.messages)) ≡ true = rest_of _ _ others in
+    no_lane c now q (is_not _ (first_of _ _ e)) (is_not _ (first_of _ _ others)) (is_not _ (first_of _ _ last)) (is_not _ (rest_of _ _ last)))
+
+nothing_free : (s : WorkingValue) (t : ℕ) → s.asks_claims ≡ false → s.order ≡ None → turn_behind None t s ≡ turn.Rests
+nothing_free s t e f = rw (e, f) (either Turn turn.Rests (is_settled t s))
+
+pub rests_always : (s : WorkingValue) (t : ℕ) → is_at_rest s ≡ true → turn_at t s ≡ turn.Rests
+rests_always s t e =
+    (let others : (not s.asks_claims && has_nothing_waiting s.queue) ≡ true = rest_of _ _ e in
+    ap (λ (l : Option Lane). turn_behind l t s) (none_goes s.clock t s.queue (rest_of _ _ others))
+    ∙ nothing_free s t (is_not _ (first_of _ _ others)) (is_none s.order (first_of _ _ e)))

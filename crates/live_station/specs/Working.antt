@@ -10,6 +10,7 @@ use Rattle.address_claim.specs.Frames.{claim_frame_value, claim_source}
 use Rattle.bus_model.specs.declared.change.Change.TheVariants as change
 use Rattle.entry_lists.specs.KeptValue.{kept_under}
 use Rattle.entry_lists.specs.KnownRows.{address_in, row_of}
+use Rattle.live_unit.specs.Echoes.{EchoValue, HearsOwn, with_written}
 use Rattle.live_unit.specs.Queue.{HasFreeLanes, QueueValue, after_withdrawing, empty_queue, putting, waits}
 use Rattle.live_unit.specs.Steps.{Writes}
 use Rattle.live_unit.specs.Times.{clock_after_hearing, clock_at_start, clock_written, lane_due}
@@ -36,7 +37,6 @@ use Rattle.live_station.specs.Ear.{is_own}
 use Rattle.live_station.specs.OpenOrders.{group_wanted, order_ended, order_heard, order_missed, part_number, unit_named}
 use Rattle.live_station.specs.Signs.{sign_for}
 use Rattle.live_station.specs.Turns.{order_due, with_part_written, with_request_written}
-use Rattle.live_station.specs.declared.echo.TheConstants.{MOST_WRITTEN}
 use Rattle.live_station.specs.declared.open.OpenOrder.{OpenOrder}
 use Rattle.live_station.specs.declared.open.Part.{Part}
 use Rattle.live_station.specs.declared.open.Progress.{Progress}
@@ -59,11 +59,6 @@ use Rattle.live_station.specs.declared.turn.Turn.TheVariants as turn
 use Rattle.live_station.specs.declared.verdict.Finding.{Finding}
 use Rattle.live_station.specs.declared.verdict.Finding.TheVariants.{Silent}
 use Rattle.live_station.specs.declared.verdict.Verdict.{Verdict}
-
--- the frames that were written and have not come back, and whether any ever did
-pub record EchoValue : Type 0 where
-  pub written : List FrameValue
-  pub comes_back : Bool
 
 -- the station: what it knows (`station_table`), what waits to be written, its times, and what it wrote; whether claims are to be asked for,
 -- until when those that were asked for are waited for, and from when on a clear goes; and the open order
@@ -171,12 +166,6 @@ abbrev pub verdict_of : Option Progress → Option Verdict
 verdict_of (Some (Ends v)) = Some v
 verdict_of _ = None
 
--- a frame from its own address came back, and those written before it do not any more; or it is somebody else's, which is told once one came back
-pub record HearsOwn (f : FrameValue) (stranger : Bool) (e e' : EchoValue) : Type 0 where
-  pub place : Option ℕ
-  pub known : IfSome place (λ k. (slice_get e.written k ≡ Some f) × (stranger ≡ false) × (e' ≡ record { written = drop (k + 1) e.written; comes_back = true }))
-  pub unknown : IfNone place (((k : ℕ) → k < length e.written → slice_get e.written k ≢ Some f) × (stranger ≡ e.comes_back) × (e' ≡ e))
-
 -- what becomes of the open order by somebody else's frame from the station's address; that puts off clears
 abbrev pub progress_by_stranger : ℕ → WorkingValue → Option Progress
 progress_by_stranger now s = hearing_on s.station sign.Nothing false true now s.order
@@ -232,12 +221,6 @@ abbrev pub LacksRoomToHear : FrameValue → WorkingValue → Type 0
 LacksRoomToHear f s =
     (is_own s.station.claimer f ≡ false) × ((MOST_PUT ≤ s.queue.put) ⊎ ((may_be_answered (group_of f) ≡ true) × (¬ HasFreeLanes s.queue)))
 
--- ---- what it wrote
-
--- a frame was written: the newest are kept
-abbrev pub with_written : FrameValue → EchoValue → EchoValue
-with_written f e = record e { written = (if nat_le MOST_WRITTEN (length e.written) then drop 1 e.written else e.written) ++ f ∷ [] }
-
 -- ---- what it does when
 
 -- it holds an address, and may ask for claims again
@@ -279,6 +262,14 @@ turn_behind None now s = if is_settled now s then free_turn now s else turn.Rest
 -- what it does at a time
 abbrev pub turn_at : ℕ → WorkingValue → Turn
 turn_at now s = turn_behind (lane_due s.clock now s.queue) now s
+
+-- no frame waits
+abbrev pub has_nothing_waiting : QueueValue → Bool
+has_nothing_waiting q = not (waits q.claims) && (not (waits q.singles) && (not (waits q.session) && not (waits q.messages)))
+
+-- nor is an order open, nor are claims to be asked for
+abbrev pub is_at_rest : WorkingValue → Bool
+is_at_rest s = not (is_some s.order) && (not s.asks_claims && has_nothing_waiting s.queue)
 
 -- a claim that is the first of its address puts off clears
 abbrev pub clear_from_claim : Lane → UnitClock → ℕ → ℕ → ℕ

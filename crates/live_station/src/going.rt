@@ -1,19 +1,23 @@
 //! How far the open order is, and from where the station sends.
-ghost use Rattle.std.specs.Prelude.{◌≡◌};
+ghost use Rattle.std.specs.Prelude.{◌≡◌, false};
 ghost use Rattle.address_claim.specs.Frames.{claim_source};
+ghost use Rattle.parameter_group.specs.Said.{said};
 ghost use Rattle.live_station.specs.OpenOrders.{unit_named};
+ghost use Rattle.live_station.specs.Signs.{sign_for};
 ghost use Rattle.live_station.specs.Working.{address_of_name, deed_turn, hearing_on, missing_on, still_open, verdict_of};
 ghost use Rattle.live_station.specs.Working as spec;
 ghost use Rattle.live_unit.specs.declared.clock.UnitClock.{UnitClock};
 
 use crate::open::{ANSWER_WAIT, OpenOrder, Progress, Sight};
 use crate::order::Order;
-use crate::sign::Sign;
+use crate::sign::{Sign, sign_to};
 use crate::turn::{Deed, Turn};
 use crate::verdict::{Finding, Verdict};
+use bus_model::Change;
 use can_frame::NULL_ADDRESS;
 use entry_lists::Row;
 use live_unit::Lane;
+use parameter_group::ParameterGroup;
 use station_table::Station;
 
 /// What a station does by its open order.
@@ -73,6 +77,26 @@ pub fn hear_on(
         stranger,
     };
     Some(going.hear(sign, sight, now))
+}
+
+/// The open order, if one is open, looks at what a frame says and changed. Its verdict, where it ended.
+pub fn look_on(
+    order: &mut Option<OpenOrder>,
+    station: &Station,
+    group: &ParameterGroup<'_>,
+    change: &Change,
+    contested: bool,
+    now: u64,
+) -> Option<Verdict>
+    ensures going { order.new ≡ still_open (hearing_on station.now (sign_for order.old (said group.now) change.now) contested false now order.old) }
+    ensures verdict { result ≡ verdict_of (hearing_on station.now (sign_for order.old (said group.now) change.now) contested false now order.old) }
+{
+    if order.is_none() {
+        return None;
+    }
+    let sign = sign_to(*order, group, change);
+    let progress = hear_on(*order, station, sign, contested, false, now);
+    go_on(order, progress)
 }
 
 /// The open order is so far now, if one is open. Its verdict, where it ended.

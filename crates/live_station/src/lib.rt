@@ -5,7 +5,6 @@
 //! frame that it answers is for its caller to write. The frames that it wrote may come back to it, as a bus tells them.
 #![tactic(auto)]
 
-mod echo;
 mod error;
 mod going;
 mod hearing;

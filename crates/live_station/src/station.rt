@@ -21,16 +21,16 @@ ghost use Rattle.can_frame.specs.FrameValue.{FrameValue};
 ghost use Rattle.station_table.specs.Listing.{entry_heard};
 ghost use Rattle.station_table.specs.Reactions.{request_for_claims};
 
-use crate::echo::Echo;
 use crate::error::{HearError, OrderError};
 use crate::going::{
-    address_of, clear_from_claim, clear_from_end, go_on, hear_on, miss_on, source_of, turn_of,
+    address_of, clear_from_claim, clear_from_end, go_on, hear_on, look_on, miss_on, source_of,
+    turn_of,
 };
 use crate::hearing::{is_own, may_be_answered};
 use crate::open::{ANSWER_WAIT, OpenOrder, Part};
 use crate::order::Order;
 use crate::pulled::{Pulled, Told};
-use crate::sign::{Sign, sign_to};
+use crate::sign::Sign;
 use crate::times::{StationTimes, behind};
 use crate::turn::{Deed, Outlook, Turn};
 use crate::verdict::{Finding, Verdict};
@@ -38,7 +38,7 @@ use crate::waiting::{queue_of, take_in};
 use bus_model::Change;
 use can_frame::{Frame, GLOBAL_ADDRESS, Pgn, Reading};
 use entry_lists::Lists;
-use live_unit::{Lane, Queue, QueueCounts, UnitClock, UnitSettings, lane_due};
+use live_unit::{Echo, Lane, Queue, QueueCounts, UnitClock, UnitSettings, lane_due};
 use name_field::Name;
 use parameter_group::ParameterGroup;
 use requests::{Commanded, Request};
@@ -208,7 +208,7 @@ impl LiveStation {
         if self.is_own(frame, &group) {
             return Ok(self.hear_own(frame, now));
         }
-        if !self.queue.may_put() || !self.queue.has_room() && may_be_answered(&group) {
+        if !self.queue.may_put() || may_be_answered(&group) && !self.queue.has_room() {
             return Err(HearError::Full);
         }
         self.hear_told(alloc, &group, now, lists)
@@ -252,9 +252,7 @@ impl LiveStation {
         let after = self.station.held();
         take_in(&mut self.queue, reaction, after);
         self.clock.hear(false, before, after, now, self.name);
-        let sign = sign_to(self.order, group, &change);
-        let progress = hear_on(self.order, &self.station, sign, contested, false, now);
-        let verdict = go_on(&mut self.order, progress);
+        let verdict = look_on(&mut self.order, &self.station, group, &change, contested, now);
         Ok(Told {
             change,
             verdict,
@@ -350,11 +348,15 @@ impl LiveStation {
 
     /// What goes at this time: a frame that waits; else a request for claims, where one is due; else what the open order does. Where
     /// nothing goes, `next` says when to look again, which may be at once.
+    #[tactic(auto, using(crate::proofs::Turning::rests_always))]
     pub fn pull(&mut self, now: u64) -> Pulled
         ensures turn { DoesTurn (turn_at now self.old) now result self.old self.new }
         ensures source { IsSentFromOwn result self.old.station }
         ensures unordered { IsUnordered result self.old.station }
     {
+        if self.is_at_rest() {
+            return Pulled::Nothing;
+        }
         match self.turn(now) {
             Turn::Rests => Pulled::Nothing,
             Turn::Writes(lane) => self.write_waiting(lane, now),
@@ -374,14 +376,30 @@ impl LiveStation {
 
     /// When to look again, at this time or later: before that nothing goes, unless a frame is heard or an order is given. The
     /// greatest number where nothing waits for its time.
+    #[tactic(auto, using(crate::proofs::Turning::rests_always))]
     pub fn next(&self, now: u64) -> u64
         ensures idle { (t : ℕ) → now ≤ t → t < result → turn_at t self.now ≡ Turn.Rests }
         ensures ahead { now ≤ result }
     {
+        if self.is_at_rest() {
+            return u64::MAX;
+        }
         match self.turn(now) {
             Turn::Rests => self.rests_until(now),
             _ => now,
         }
+    }
+
+    /// Whether nothing waits, no order is open, and claims are not to be asked for: then it does nothing, whenever that is.
+    fn is_at_rest(&self) -> bool
+        ensures { result ≡ spec.is_at_rest self.now }
+    {
+        self.order.is_none()
+            && !self.asks_claims
+            && !self.queue.waits(Lane::Claims)
+            && !self.queue.waits(Lane::Singles)
+            && !self.queue.waits(Lane::Session)
+            && !self.queue.waits(Lane::Messages)
     }
 
     /// Until when what a station does stays the same.

@@ -258,6 +258,17 @@ typedef struct {
     bool full;
 } hidzgula_live;
 
+/* A message of a group that a program shares with a live station. `name` is the NAME that held `source` from its first to its last frame, where `has_name`
+ * is 1; else no claim of that address was heard. Behind its `size` bytes, up to 1,785, there are 0. */
+typedef struct {
+    uint64_t name;
+    uint32_t pgn;
+    uint16_t size;
+    uint8_t source;
+    uint8_t has_name;
+    uint8_t bytes[1785];
+} hidzgula_message;
+
 /* What a live station keeps to; times are in microseconds.
  *  - `gap`: how long it is at least from a frame of a command to the next, 10,000 to 200,000: 50 to 200 ms by SAE J1939-21, 10 to 200 ms by
  *    ISO 11783-3 and later editions (from memory).
@@ -492,6 +503,12 @@ HIDZGULA_LAYOUT(offsetof(hidzgula_sent_out, bytes_missing) == 11);
 HIDZGULA_LAYOUT(offsetof(hidzgula_sent_out, codes) == 16);
 HIDZGULA_LAYOUT(sizeof(hidzgula_live) == 16);
 HIDZGULA_LAYOUT(offsetof(hidzgula_live, full) == 8);
+HIDZGULA_LAYOUT(sizeof(hidzgula_message) == 1808);
+HIDZGULA_LAYOUT(offsetof(hidzgula_message, pgn) == 8);
+HIDZGULA_LAYOUT(offsetof(hidzgula_message, size) == 12);
+HIDZGULA_LAYOUT(offsetof(hidzgula_message, source) == 14);
+HIDZGULA_LAYOUT(offsetof(hidzgula_message, has_name) == 15);
+HIDZGULA_LAYOUT(offsetof(hidzgula_message, bytes) == 16);
 HIDZGULA_LAYOUT(sizeof(hidzgula_live_settings) == 24);
 HIDZGULA_LAYOUT(offsetof(hidzgula_live_settings, settle) == 8);
 HIDZGULA_LAYOUT(offsetof(hidzgula_live_settings, keep) == 16);
@@ -855,6 +872,52 @@ uint32_t hidzgula_live_end(hidzgula_live *live, uint64_t now);
 /* The order that is open, or what came of the newest one.
  * NO_STATION. */
 uint32_t hidzgula_live_verdict(hidzgula_live *live, hidzgula_verdict *verdict);
+
+/* ---- Groups that the program shares with a live station
+ *
+ * Of a group that is shared the program has the messages, at the station's own address: those in one frame and broadcasts, and what units send to
+ * that address, whose packets are granted. The station neither refuses requests for it nor aborts its sessions. Each frame, from the
+ * first one on, is handed to `hidzgula_live_shared_hear`, and then to the station where it is not withheld; both are asked for frames to write:
+ *
+ *     hidzgula_live_share(&live, 65260);                                  the identification of vehicles
+ *     hidzgula_live_shared_ask(&live, address, 65260);
+ *     ..
+ *     hidzgula_live_shared_hear(&live, frame.id, frame.bytes, frame.length, &withheld, &whole);
+ *     if (!withheld) hidzgula_live_hear(&live, frame.id, frame.bytes, frame.length, now(), &change);
+ *     if (whole) hidzgula_live_shared_message(&live, &message);
+ *     ..
+ *     while (hidzgula_live_shared_next(&live, now(), &frame, &has) == HIDZGULA_DONE && has) write_frame(&frame);
+ *
+ * Where `hidzgula_live_hear` refuses a frame, that call alone is made again. A message is dropped half joined where its address is claimed by another
+ * NAME or frames were missed, and one to the station where that moves. */
+
+/* Shares a group from now on. Groups of the protocol and of diagnostics are the station's: 59392, 59904, 60160, 60416, 60928, 65226 to 65228, 65231,
+ * 65235, 65240.
+ * PGN_TOO_LARGE, NO_STATION, NO_GROUP for one of those, OUT_OF_MEMORY. */
+uint32_t hidzgula_live_share(hidzgula_live *live, uint32_t pgn);
+
+/* Asks the unit at an address, or all (255), for a group that is shared. The request waits for `hidzgula_live_shared_next`.
+ * PGN_TOO_LARGE, NO_STATION, NO_GROUP where it is not shared, NOT_HELD, QUEUE_FULL where 64 frames wait. */
+uint32_t hidzgula_live_shared_ask(hidzgula_live *live, uint8_t to, uint32_t pgn);
+
+/* Hears a frame of the bus, before the station does. `withheld` is 1 where it is the program's alone: the station is then not to hear it. `whole` is 1
+ * where a message is whole with it.
+ * ID_TOO_LARGE, TOO_LONG, NO_STATION; and where it is withheld QUEUE_FULL, OUT_OF_MEMORY. Refused, the frame was not heard, and may be handed over again.
+ * Where memory is refused for any other frame, what is half joined from its source is dropped. */
+uint32_t hidzgula_live_shared_hear(
+    hidzgula_live *live, uint32_t id, const uint8_t *bytes, size_t length, uint8_t *withheld, uint8_t *whole);
+
+/* The frame that goes now for groups that are shared, as `hidzgula_live_next` gives the station's; from the station's address, once that has settled.
+ * NO_STATION. */
+uint32_t hidzgula_live_shared_next(hidzgula_live *live, uint64_t now, hidzgula_frame *frame, uint8_t *has);
+
+/* When to ask again for those, as `hidzgula_live_when` says it of the station's.
+ * NO_STATION. */
+uint32_t hidzgula_live_shared_when(hidzgula_live *live, uint64_t now, uint64_t *at);
+
+/* The newest message that is whole; it stays until the next one is.
+ * NO_STATION, NO_PLACE where none was. */
+uint32_t hidzgula_live_shared_message(hidzgula_live *live, hidzgula_message *message);
 
 /* What the station knows of units, by what it was told: the calls do what those of a station without `live_` do. */
 uint32_t hidzgula_live_held(hidzgula_live *live, uint8_t *has, uint8_t *address);

@@ -120,6 +120,19 @@ class LiveSettingsRecord(Structure):
     _fields_ = [("gap", c_uint64), ("settle", c_uint64), ("keep", c_uint32), ("grant", c_uint8)]
 
 
+class MessageRecord(Structure):
+    """A message of a group that a program shares with a live station."""
+
+    _fields_ = [
+        ("name", c_uint64),
+        ("pgn", c_uint32),
+        ("size", c_uint16),
+        ("source", c_uint8),
+        ("has_name", c_uint8),
+        ("bytes", c_uint8 * 1785),
+    ]
+
+
 class VerdictRecord(Structure):
     """The open order, or what came of the newest one."""
 
@@ -209,6 +222,7 @@ RECORDS = (
     (ReadRecord, "hidzgula_read", 32),
     (LiveRecord, "hidzgula_live", 16),
     (LiveSettingsRecord, "hidzgula_live_settings", 24),
+    (MessageRecord, "hidzgula_message", 1808),
     (VerdictRecord, "hidzgula_verdict", 32),
     (ListenerRecord, "hidzgula_listener", 16),
     (WhoRecord, "hidzgula_who", 24),
@@ -263,6 +277,12 @@ CALLS = {
     "hidzgula_live_command": (_LIVE, c_uint64, c_uint8),
     "hidzgula_live_end": (_LIVE, c_uint64),
     "hidzgula_live_verdict": (_LIVE, POINTER(VerdictRecord)),
+    "hidzgula_live_share": (_LIVE, c_uint32),
+    "hidzgula_live_shared_ask": (_LIVE, c_uint8, c_uint32),
+    "hidzgula_live_shared_hear": (_LIVE, c_uint32, c_char_p, c_size_t, POINTER(c_uint8), POINTER(c_uint8)),
+    "hidzgula_live_shared_next": (_LIVE, c_uint64, POINTER(FrameRecord), POINTER(c_uint8)),
+    "hidzgula_live_shared_when": (_LIVE, c_uint64, POINTER(c_uint64)),
+    "hidzgula_live_shared_message": (_LIVE, POINTER(MessageRecord)),
     "hidzgula_live_held": (_LIVE, POINTER(c_uint8), POINTER(c_uint8)),
     "hidzgula_live_counts": (_LIVE, POINTER(c_uint64), POINTER(c_uint64)),
     "hidzgula_live_rows": (_LIVE, POINTER(c_size_t)),

@@ -2,10 +2,10 @@
 
 import ctypes
 import threading
-from typing import Any, Optional
+from typing import Any, Callable, Iterable, Optional
 
-from ._library import ChangeRecord, FrameRecord, LiveRecord, LiveSettingsRecord, VerdictRecord, library
-from .records import Change, Doubt, Finding, Frame, Kind, Verdict
+from ._library import ChangeRecord, FrameRecord, LiveRecord, LiveSettingsRecord, MessageRecord, VerdictRecord, library
+from .records import Change, Doubt, Finding, Frame, Kind, SharedMessage, Verdict, What
 from .station import KEEP_ALL, Known, Octets, Queries, at_address, change_of, done, frame_of, number_of, octets_of, said_by
 
 _NEVER = 2**64 - 1
@@ -43,7 +43,16 @@ class LiveStation(Known):
     )
 
     def __init__(
-        self, name: int, address: int, *, grant: int = 255, keep: Optional[int] = 16, gap: int = 50_000, settle: int = 250_000
+        self,
+        name: int,
+        address: int,
+        *,
+        grant: int = 255,
+        keep: Optional[int] = 16,
+        gap: int = 50_000,
+        settle: int = 250_000,
+        share: Iterable[int] = (),
+        on_message: Optional[Callable[[SharedMessage], Any]] = None,
     ) -> None:
         """Opens a station whose claim waits; it has heard nothing.
 
@@ -54,14 +63,18 @@ class LiveStation(Known):
         gap: microseconds at least from a frame of a command to the next, 10,000 to 200,000: 50 to 200 ms by SAE J1939-21, 10 to 200 ms by
             ISO 11783-3 and later editions (from memory).
         settle: microseconds from the claim of a new address to anything but a claim, up to 1,000,000 (SAE J1939-81: 250,000).
+        share: groups whose messages the program has at this address; each that is whole is handed to `on_message` by the call of `hear` that made it so.
 
-        Raises Refused BAD_SETTING for an address above 253, a grant of 0 or a time out of its range, and MemoryError.
+        Raises Refused BAD_SETTING for an address above 253, a grant of 0 or a time out of its range, NO_GROUP for a group of the protocol or of
+        diagnostics in `share`, and MemoryError.
         """
         self._station = LiveRecord()
         self._lock = threading.Lock()
         self._change = ChangeRecord()
         self._verdict: Optional[Verdict] = None
         self._is_open = False
+        self._shares = False
+        self.on_message = on_message
         self._keep = number_of("keep", KEEP_ALL if keep is None else keep, KEEP_ALL)
         self._name = name = number_of("name", name, 2**64 - 1)
         settings = LiveSettingsRecord(
@@ -72,6 +85,8 @@ class LiveStation(Known):
         )
         done(library.hidzgula_live_open(self._station, name, number_of("address", address, 255, most_is_refused=True), settings))
         self._is_there = True
+        for pgn in share:
+            self.share(pgn)
 
     def close(self) -> None:
         """Closes the station and frees its memory; every other call is then Refused, NO_STATION. Closing twice does nothing."""
@@ -114,10 +129,22 @@ class LiveStation(Known):
         id = number_of("id", id, 2**32 - 1, most_is_refused=True)
         data = octets_of(data)
         now = number_of("now", now, _NEVER)
+        message = None
         with self._lock:
-            done(library.hidzgula_live_hear(self._station, id, data, len(data), now, self._change))
-            self._look()
-            return change_of(self._change)
+            withheld, whole = ctypes.c_uint8(), ctypes.c_uint8()
+            if self._shares:
+                done(library.hidzgula_live_shared_hear(self._station, id, data, len(data), withheld, whole))
+            if whole.value:
+                message = self._newest_shared()
+            if withheld.value:
+                change = Change(What.NOTHING)
+            else:
+                done(library.hidzgula_live_hear(self._station, id, data, len(data), now, self._change))
+                self._look()
+                change = change_of(self._change)
+        if message is not None and self.on_message is not None:
+            self.on_message(message)
+        return change
 
     def missed(self, count: int, now: int) -> Change:
         """Tells the station that `count` frames of the bus were missed, 0 to 2^32 - 1: it forgets which NAME owns which address, and all messages that
@@ -139,8 +166,11 @@ class LiveStation(Known):
         """
         record, has = FrameRecord(), ctypes.c_uint8()
         with self._lock:
-            done(library.hidzgula_live_next(self._station, number_of("now", now, _NEVER), record, has))
+            now = number_of("now", now, _NEVER)
+            done(library.hidzgula_live_next(self._station, now, record, has))
             self._look()
+            if self._shares and not has.value:
+                done(library.hidzgula_live_shared_next(self._station, now, record, has))
         return frame_of(record) if has.value else None
 
     def when(self, now: int) -> Optional[int]:
@@ -149,10 +179,47 @@ class LiveStation(Known):
 
         Raises Refused NO_STATION.
         """
-        at = ctypes.c_uint64()
+        at, shared_at = ctypes.c_uint64(), ctypes.c_uint64(_NEVER)
+        now = number_of("now", now, _NEVER)
         with self._lock:
-            done(library.hidzgula_live_when(self._station, number_of("now", now, _NEVER), at))
-        return at.value if at.value != _NEVER else None
+            done(library.hidzgula_live_when(self._station, now, at))
+            if self._shares:
+                done(library.hidzgula_live_shared_when(self._station, now, shared_at))
+        first = min(at.value, shared_at.value)
+        return first if first != _NEVER else None
+
+    # ---- groups that the program shares with the station
+
+    def share(self, pgn: int) -> None:
+        """Shares a group from now on: the program has its messages at the station's address, as `shared_message` and by `on_message`. NAMEs are known by claims
+        that are heard since the first group was shared, so that is best done by the opening (`share`).
+
+        Raises Refused NO_GROUP for a group of the protocol or of diagnostics, PGN_TOO_LARGE, NO_STATION, and MemoryError.
+        """
+        with self._lock:
+            done(library.hidzgula_live_share(self._station, number_of("pgn", pgn, 2**32 - 1, most_is_refused=True)))
+            self._shares = True
+
+    def request(self, to: int, pgn: int) -> None:
+        """Asks the unit at an address, or all (255), for a group that is shared: `next` gives the request.
+
+        Raises Refused NO_GROUP where it is not shared, NOT_HELD, QUEUE_FULL, NO_STATION.
+        """
+        to = number_of("to", to, 255)
+        with self._lock:
+            done(library.hidzgula_live_shared_ask(self._station, to, number_of("pgn", pgn, 2**32 - 1, most_is_refused=True)))
+
+    @property
+    def shared_message(self) -> Optional[SharedMessage]:
+        """The newest message of a group that is shared which is whole."""
+        with self._lock:
+            return self._newest_shared()
+
+    def _newest_shared(self) -> Optional[SharedMessage]:
+        record = MessageRecord()
+        if library.hidzgula_live_shared_message(self._station, record):
+            return None
+        return SharedMessage(record.pgn, record.source, record.name if record.has_name else None, bytes(record.bytes[: record.size]))
 
     # ---- orders
 

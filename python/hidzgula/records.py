@@ -396,6 +396,18 @@ class Doubt(enum.IntEnum):
     """Somebody else sends from the station's own address."""
 
 
+class SharedMessage(NamedTuple):
+    """A message of a group that a program shares with a live station."""
+
+    pgn: int
+    source: int
+    """The address that sent it."""
+    name: Optional[int]
+    """The NAME that held that address from its first to its last frame; None where no claim of it was heard since the first group was shared."""
+    data: bytes
+    """Up to 1,785 bytes."""
+
+
 class Verdict(NamedTuple):
     """What came of an order of a live station."""
 

@@ -16,6 +16,7 @@ use Rattle.live_station.specs.declared.turn.Deed.TheVariants as deed
 use Rattle.live_station.specs.declared.turn.Turn.{Turn}
 use Rattle.live_station.specs.declared.turn.Turn.TheVariants as turn
 use Rattle.live_station.specs.declared.verdict.Verdict.{Verdict}
+use Rattle.shared_groups.specs.Sharing.{SharedValue}
 use Rattle.station_table.specs.Listing.{entry_heard, lists_heard}
 use Rattle.station_table.specs.StandsFor.{StandsFor}
 use Rattle.station_table.specs.StationValue.{StationValue}
@@ -34,29 +35,30 @@ told_or_own : (own : Bool) (before after : NewestLists) (r : StationSettings) (f
 told_or_own true before after r f told put kept = subst (λ (l : NewestLists). KeepsNewest l (lists_heard r told)) (sym put) kept
 told_or_own false before after r f told put kept = keeps_after before after r (Frame f) told put kept
 
-pub stands_at_first : (r : StationSettings) (grant keep : ℕ) (live : WorkingValue) (lists : NewestLists) (last : Option Verdict)
+pub stands_at_first : (r : StationSettings) (grant keep : ℕ) (live : WorkingValue) (lists : NewestLists) (last : Option Verdict) (shared : SharedValue)
     → StandsFor r grant live.station (frames_told r []) → KeepsNewest lists (λ n k. []) → lists.keep ≡ keep
-    → StandsLive r grant keep (record { live = live; lists = lists; last = last }) []
-stands_at_first r grant keep live lists last stands newest kept = record { station = stands; lists = newest; keep_is = kept }
+    → StandsLive r grant keep (record { live = live; lists = lists; last = last; shared = shared }) []
+stands_at_first r grant keep live lists last shared stands newest kept = record { station = stands; lists = newest; keep_is = kept }
 
 -- what a station is that begins
-abbrev at_first : WorkingValue → NewestLists → ListedLiveValue
-at_first live lists = record { live = live; lists = lists; last = None }
+abbrev at_first : WorkingValue → NewestLists → SharedValue → ListedLiveValue
+at_first live lists shared = record { live = live; lists = lists; last = None; shared = shared }
 
-pub first_is : (live live' : WorkingValue) (lists lists' : NewestLists) → live ≡ live' → lists ≡ lists' → at_first live lists ≡ at_first live' lists'
-first_is live live' lists lists' e f = λ i. at_first (e i) (f i)
+pub first_is : (live live' : WorkingValue) (lists lists' : NewestLists) (shared shared' : SharedValue) → live ≡ live' → lists ≡ lists' → shared ≡ shared'
+    → at_first live lists shared ≡ at_first live' lists' shared'
+first_is live live' lists lists' shared shared' e f g = λ i. at_first (e i) (f i) (g i)
 
 -- ---- at a call's answer, of a station with its lists that is seen as one value
 
-pub stands_heard : (old : ListedLiveValue) (live after : WorkingValue) (lists lists' : NewestLists) (last : Option Verdict) (f : FrameValue)
+pub stands_heard : (old : ListedLiveValue) (live after : WorkingValue) (lists lists' : NewestLists) (last : Option Verdict) (shared : SharedValue) (f : FrameValue)
     → live ≡ old.live → lists ≡ old.lists
     → ((r : StationSettings) (grant : ℕ) (h : List Reading) → StandsFor r grant live.station (frames_told r h)
     → StandsFor r grant after.station (frames_told r (Frame f ∷ h)))
     → ((r : StationSettings) (grant : ℕ) (h : List Reading) → StandsFor r grant live.station (frames_told r h)
     → HasPut HasNewest lists (entry_of_told r f h) lists')
     → (r : StationSettings) (grant keep : ℕ) (h : List Reading) → StandsLive r grant keep old h
-    → StandsLive r grant keep (record { live = after; lists = lists'; last = last }) (Frame f ∷ h)
-stands_heard old live after lists lists' last f same same_lists stands listed r grant keep h s =
+    → StandsLive r grant keep (record { live = after; lists = lists'; last = last; shared = shared }) (Frame f ∷ h)
+stands_heard old live after lists lists' last shared f same same_lists stands listed r grant keep h s =
     let before = subst (λ (w : WorkingValue). StandsFor r grant w.station (frames_told r h)) (sym same) s.station in
     let put = subst (λ (l : NewestLists). HasPut HasNewest l (entry_of_told r f h) lists') same_lists (listed r grant h before) in
     record {
@@ -65,14 +67,14 @@ stands_heard old live after lists lists' last f same same_lists stands listed r 
       keep_is = keep_put old.lists lists' (entry_of_told r f h) put ∙ s.keep_is;
     }
 
-pub stands_missed : (old : ListedLiveValue) (live after : WorkingValue) (lists lists' : NewestLists) (last : Option Verdict) (count : ℕ)
+pub stands_missed : (old : ListedLiveValue) (live after : WorkingValue) (lists lists' : NewestLists) (last : Option Verdict) (shared : SharedValue) (count : ℕ)
     → live ≡ old.live → lists ≡ old.lists
     → ((r : StationSettings) (grant : ℕ) (h : List Reading) → StandsFor r grant live.station (frames_told r h)
     → StandsFor r grant after.station (frames_told r (Gap count ∷ h)))
     → lists' ≡ lists
     → (r : StationSettings) (grant keep : ℕ) (h : List Reading) → StandsLive r grant keep old h
-    → StandsLive r grant keep (record { live = after; lists = lists'; last = last }) (Gap count ∷ h)
-stands_missed old live after lists lists' last count same same_lists stands kept r grant keep h s =
+    → StandsLive r grant keep (record { live = after; lists = lists'; last = last; shared = shared }) (Gap count ∷ h)
+stands_missed old live after lists lists' last shared count same same_lists stands kept r grant keep h s =
     let before = subst (λ (w : WorkingValue). StandsFor r grant w.station (frames_told r h)) (sym same) s.station in
     record {
       station = stands r grant h before;
@@ -93,11 +95,11 @@ stays_by_turn (turn.Writes lane) now p s s' does = ap (λ (w : WorkingValue). w.
 stays_by_turn turn.AsksClaims now p s s' does = ap (λ (w : WorkingValue). w.station) does.1
 stays_by_turn (turn.Does o d) now p s s' does = stays_by_deed d now o p s s' does
 
-pub stands_pulled : (old : ListedLiveValue) (live after : WorkingValue) (lists : NewestLists) (last : Option Verdict) (now : ℕ) (p : Pulled)
+pub stands_pulled : (old : ListedLiveValue) (live after : WorkingValue) (lists : NewestLists) (last : Option Verdict) (shared : SharedValue) (now : ℕ) (p : Pulled)
     → live ≡ old.live → lists ≡ old.lists → DoesTurn (turn_at now live) now p live after
     → (r : StationSettings) (grant keep : ℕ) (h : List Reading) → StandsLive r grant keep old h
-    → StandsLive r grant keep (record { live = after; lists = lists; last = last }) h
-stands_pulled old live after lists last now p same same_lists does r grant keep h s =
+    → StandsLive r grant keep (record { live = after; lists = lists; last = last; shared = shared }) h
+stands_pulled old live after lists last shared now p same same_lists does r grant keep h s =
     let stays : after.station ≡ old.live.station =
     stays_by_turn (turn_at now live) now p live after does ∙ ap (λ (w : WorkingValue). w.station) same in
     record {

@@ -18,3 +18,4 @@ pub mod HeldLives
 pub mod ListedLives
 pub mod LiveHandles
 pub mod LiveRecords
+pub mod SharedRecords

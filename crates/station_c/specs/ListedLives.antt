@@ -1,23 +1,28 @@
 -- A live station, the lists that it fills, and the verdict of the newest order that ended.
-use Rattle.std.specs.Prelude.{◌≡◌, ℕ, List, Option, Some, None, option_map}
+use Rattle.std.specs.Prelude.{◌≡◌, ◌&&◌, ℕ, Bool, true, false, List, Option, Some, None, option_map}
 use Rattle.bus_model.specs.Heard.{StationSettings}
+use Rattle.can_frame.specs.FrameValue.{FrameValue}
 use Rattle.can_frame.specs.declared.reading.Reading.{Reading}
 use Rattle.entry_lists.specs.Newest.{KeepsNewest, NewestLists}
 use Rattle.live_station.specs.Ear.{frames_told}
 use Rattle.live_station.specs.OpenOrders.{begun_order, order_cut_off}
-use Rattle.live_station.specs.Working.{WorkingValue}
+use Rattle.live_station.specs.Turns.{has_come}
+use Rattle.live_station.specs.Working.{WorkingValue, settled_since}
 use Rattle.live_station.specs.declared.order.Order.{Order}
 use Rattle.live_station.specs.declared.pulled.Pulled.{Pulled}
 use Rattle.live_station.specs.declared.pulled.Pulled.TheVariants.{Verdict as PulledVerdict}
 use Rattle.live_station.specs.declared.verdict.Verdict.{Verdict}
+use Rattle.parameter_group.specs.Group.{group_of}
+use Rattle.shared_groups.specs.Sharing.{HearsBeside, SharedValue, after_frame, brings_message, does_wait, is_for_program}
 use Rattle.station_table.specs.Listing.{lists_heard}
 use Rattle.station_table.specs.StandsFor.{StandsFor}
 
--- the station; which entries are kept; and the verdict of the newest order, once it ended
+-- the station; which entries are kept; the verdict of the newest order, once it ended; and the groups that the program shares
 pub record ListedLiveValue : Type 0 where
   pub live : WorkingValue
   pub lists : NewestLists
   pub last : Option Verdict
+  pub shared : SharedValue
 
 -- of two verdicts the newer one, if there is one
 abbrev pub newer_verdict : Option Verdict → Option Verdict → Option Verdict
@@ -42,3 +47,16 @@ with_order_ended now v = record v { live = record v.live { order = None }; last 
 abbrev pub verdict_pulled : Pulled → Option Verdict
 verdict_pulled (PulledVerdict verdict) = Some verdict
 verdict_pulled _ = None
+
+-- ---- the groups that the program shares
+
+-- they heard a frame; it is withheld from the station, or not; a message is whole with it, or not; nothing else changed
+pub record SharesFrame (f : FrameValue) (withheld whole : Bool) (v v' : ListedLiveValue) : Type 0 where
+  pub withholds : withheld ≡ is_for_program v.shared f (group_of f)
+  pub alone : withheld ≡ true → (v'.shared ≡ after_frame f (group_of f) v.shared) × (whole ≡ brings_message f (group_of f) v.shared)
+  pub beside : withheld ≡ false → HearsBeside f (group_of f) whole v.shared v'.shared
+  pub rest : v' ≡ record v { shared = v'.shared }
+
+-- something waits for them, and the station has settled
+abbrev pub shared_goes : ℕ → ListedLiveValue → Bool
+shared_goes now v = does_wait v.shared && has_come (settled_since v.live) now

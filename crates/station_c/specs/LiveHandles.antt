@@ -9,8 +9,10 @@ use Rattle.live_station.specs.declared.order.Order.{Order}
 use Rattle.live_station.specs.declared.pulled.Pulled.{Pulled}
 use Rattle.live_station.specs.declared.pulled.Told.{Told}
 use Rattle.station_c.specs.Held.{is_there}
-use Rattle.station_c.specs.ListedLives.{ListedLiveValue, StandsLive, newer_verdict, verdict_pulled, with_order}
-use Rattle.station_c.specs.LiveRecords.{TellsPulled, change_told_on_bus}
+use Rattle.shared_groups.specs.Sharing.{frame_due, without_first}
+use Rattle.station_c.specs.ListedLives.{ListedLiveValue, SharesFrame, StandsLive, newer_verdict, shared_goes, verdict_pulled, with_order}
+use Rattle.station_c.specs.LiveRecords.{TellsPulled, TellsShared, change_told_on_bus}
+use Rattle.station_c.specs.Records.{flag}
 use Rattle.station_c.specs.Statuses.{Answers}
 use Rattle.station_c.specs.declared.changes.ChangeRecord.{ChangeRecord}
 use Rattle.station_c.specs.declared.live_handle.LiveHandle.{LiveHandle}
@@ -44,6 +46,18 @@ abbrev pub PullsTelling : ℕ → ListedLiveValue → ℕ → FrameRecord → Fr
 PullsTelling now before has was frame after =
     (p : Pulled) × DoesTurn (turn_at now before.live) now p before.live after.live × TellsPulled has was frame p
     × (after.last ≡ newer_verdict (verdict_pulled p) before.last)
+
+-- groups that are shared heard a frame, and told whether it is theirs alone, and whether a message is whole with it
+abbrev pub SharesTelling : FrameValue → ListedLiveValue → ℕ → ℕ → ListedLiveValue → Type 0
+SharesTelling f before withheld whole after =
+    (w m : Bool) × SharesFrame f w m before after × (withheld ≡ flag w) × (whole ≡ flag m)
+
+-- the frame that goes at a time for them went, and the record has it then; or nothing goes
+abbrev pub PullsShared : ℕ → ListedLiveValue → ℕ → FrameRecord → FrameRecord → ListedLiveValue → Type 0
+PullsShared now before has was it after =
+    (f : Option FrameValue) × TellsShared has was it f × (shared_goes now before ≡ false → IsNone f)
+    × (shared_goes now before ≡ true → f ≡ frame_due before.shared)
+    × (IsNone f → after ≡ before) × (IsSome f → after ≡ record before { shared = without_first before.shared })
 
 -- an order commands an address that nobody can hold
 abbrev pub CommandsTooFar : Option Order → Type 0

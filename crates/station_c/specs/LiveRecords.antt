@@ -1,6 +1,7 @@
 -- What the records of a live station say.
 use Rattle.std.specs.Prelude.{◌≡◌, ◌&&◌, ◌==◌, ℕ, Bool, is_some, nat_le, nat_lt, Option, Some, None, if◌then◌else◌}
 use Rattle.std.specs.Option.{unwrap_or}
+use Rattle.can_frame.specs.FrameValue.{FrameValue}
 use Rattle.can_frame.specs.declared.group_numbers.TheConstants.{ADDRESS_CLAIMED, DM1, DM2, DM3, DM6, DM11}
 use Rattle.dm_messages.specs.declared.kind.Kind.TheVariants.{Dm1, Dm2, Dm6}
 use Rattle.live_station.specs.OpenOrders.{group_wanted, unit_named}
@@ -42,6 +43,11 @@ change_told_on_bus t = if t.stranger then record no_change { what = 9 } else cha
 abbrev pub TellsPulled : ℕ → FrameRecord → FrameRecord → Pulled → Type 0
 TellsPulled has before after (pulled.Frame f of_order) = (has ≡ 1) × (frame_recorded after ≡ f)
 TellsPulled has before after _ = (has ≡ 0) × (after ≡ before)
+
+-- the same of groups that are shared
+abbrev pub TellsShared : ℕ → FrameRecord → FrameRecord → Option FrameValue → Type 0
+TellsShared has before after (Some f) = (has ≡ 1) × (frame_recorded after ≡ f)
+TellsShared has before after None = (has ≡ 0) × (after ≡ before)
 
 -- ---- orders
 

@@ -1,5 +1,5 @@
 -- What a call from C answers, as a number.
-use Rattle.std.specs.Prelude.{◌≡◌, ◌⊎◌, ℕ}
+use Rattle.std.specs.Prelude.{◌≡◌, ◌⊎◌, ℕ, Result, Ok, Err}
 use Rattle.can_frame.specs.declared.frame.FrameError.{FrameError}
 use Rattle.can_frame.specs.declared.frame.FrameError.TheVariants as frame
 use Rattle.fault_memory.specs.declared.error.FaultError.{FaultError}
@@ -10,6 +10,8 @@ use Rattle.live_station.specs.declared.error.OrderError.{OrderError}
 use Rattle.live_station.specs.declared.error.OrderError.TheVariants as order
 use Rattle.live_unit.specs.declared.error.LiveError.{LiveError}
 use Rattle.live_unit.specs.declared.error.LiveError.TheVariants as live
+use Rattle.shared_groups.specs.declared.error.SharedError.{SharedError}
+use Rattle.shared_groups.specs.declared.error.SharedError.TheVariants as shared
 use Rattle.station_table.specs.declared.error.StationError.{StationError}
 use Rattle.station_table.specs.declared.error.StationError.TheVariants as station
 use Rattle.station_c.specs.declared.status.Status.{Status}
@@ -81,6 +83,17 @@ status_of_hearing hearing.Full = QueueFull
 abbrev pub status_of_order : OrderError → Status
 status_of_order order.Open = OrderOpen
 status_of_order order.NotAnAddress = NotAnAddress
+
+-- a refusal of groups that a program shares
+abbrev pub status_of_shared : SharedError → Status
+status_of_shared shared.OutOfMemory = OutOfMemory
+status_of_shared shared.Full = QueueFull
+status_of_shared shared.NoGroup = NoGroup
+status_of_shared shared.NotHeld = NotHeld
+
+abbrev pub status_of_sharing : Result (Unit {0}) SharedError → Status
+status_of_sharing (Ok x) = Done
+status_of_sharing (Err refusal) = status_of_shared refusal
 
 -- the number that a call answered is this one's
 abbrev pub Answers : ℕ → Status → Type 0

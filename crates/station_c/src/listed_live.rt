@@ -1,4 +1,4 @@
-ghost use Rattle.std.specs.Prelude.{◌≡◌, ◌↔◌, ◌⊎◌, ◌≤◌, ◌<◌, ◌∷◌, ℕ, List, [], None, IfErr, IfOk, IsErrOf, IsNone, IsSome, OnErr, OnOk, true};
+ghost use Rattle.std.specs.Prelude.{◌≡◌, ◌↔◌, ◌⊎◌, ◌≤◌, ◌<◌, ◌∷◌, ℕ, List, [], None, Some, IfErr, IfOk, IfSome, IsErrOf, IsNone, IsSome, OnErr, OnOk, false, true};
 ghost use Rattle.can_frame.specs.declared.address.TheConstants.{GREATEST_ADDRESS as GREATEST};
 ghost use Rattle.can_frame.specs.declared.reading.Reading.{Reading as AnyReading};
 ghost use Rattle.can_frame.specs.declared.reading.Reading.TheVariants.{Frame as FrameRead, Gap as GapRead};
@@ -6,16 +6,31 @@ ghost use Rattle.bus_model.specs.Heard.{StationSettings};
 ghost use Rattle.live_station.specs.OpenOrders.{commands_too_far};
 ghost use Rattle.live_station.specs.Working.{DoesTurn, HearsOnBus, IsSentFromOwn, LacksRoomToHear, MissesFrames, begun_station, turn_at};
 ghost use Rattle.live_unit.specs.declared.queue.TheConstants.{MOST_PUT as MOST};
-ghost use Rattle.station_c.specs.ListedLives.{StandsLive, newer_verdict, verdict_pulled, with_order, with_order_ended};
+ghost use Rattle.can_frame.specs.Fields.{source_of};
+ghost use Rattle.live_station.specs.Turns.{has_come};
+ghost use Rattle.shared_groups.specs.Sharing.{frame_due, is_sharable, is_shared, none_shared, with_waiting, sharing_also, without_first};
+ghost use Rattle.shared_groups.specs.declared.waiting.Waiting.TheVariants.{Request as RequestWaiting};
+ghost use Rattle.station_c.specs.ListedLives.{SharesFrame, StandsLive, newer_verdict, shared_goes, verdict_pulled, with_order, with_order_ended};
 
-use can_frame::Frame;
+use can_frame::{Frame, Pgn};
 use entry_lists::NewestEntries;
 use live_station::{
     HearError, LiveStation, Order, OrderError, Pulled, StationTimes, Told, Verdict,
 };
 use name_field::Name;
+use parameter_group::ParameterGroup;
+use shared_groups::{SharedError, SharedGroups};
 use std::alloc::{AllocError, Global};
 use std::marker::Model;
+
+/// What groups that are shared heard of a frame.
+#[derive(Clone, Copy)]
+pub struct SharedHeard {
+    /// Whether it is the program's alone.
+    pub is_withheld: bool,
+    /// Whether a message is whole with it.
+    pub is_whole: bool,
+}
 
 /// A live station, the lists that it fills, and the verdict of the newest order that ended.
 #[derive(Drop)]
@@ -23,6 +38,7 @@ pub struct ListedLive {
     live: LiveStation,
     lists: NewestEntries,
     last: Option<Verdict>,
+    shared: SharedGroups,
 }
 
 impl Model for ListedLive {
@@ -30,7 +46,7 @@ impl Model for ListedLive {
 
     ghost Value = { ListedLiveValue };
 
-    ghost view = { λ s. record { live = s.live; lists = s.lists; last = s.last } };
+    ghost view = { λ s. record { live = s.live; lists = s.lists; last = s.last; shared = s.shared } };
 }
 
 impl ListedLive {
@@ -47,14 +63,17 @@ impl ListedLive {
     ) -> Result<ListedLive, AllocError>
         requires address_fits { want ≤ GREATEST }
         requires grants { 0 < grant }
-        ensures value { IfOk result (λ s. s ≡ record { live = begun_station name want grant times; lists = record { keep = keep; rows = [] }; last = None }) }
+        ensures value { IfOk result (λ s. s ≡ record { live = begun_station name want grant times; lists = record { keep = keep; rows = [] }; last = None; shared = none_shared (Some want) grant }) }
         ensures stands { IfOk result (λ s. StandsLive (record { name = name; address = want }) grant keep s []) }
     {
         let live = LiveStation::new(alloc, name, want, grant, times)?;
+        let lists = NewestEntries::new(alloc, keep);
+        let shared = SharedGroups::new(alloc, Some(want), grant)?;
         Ok(ListedLive {
             live,
-            lists: NewestEntries::new(alloc, keep),
+            lists,
             last: None,
+            shared,
         })
     }
 
@@ -93,6 +112,7 @@ impl ListedLive {
         match self.live.hear(alloc, frame, now, &mut self.lists) {
             Ok(told) => {
                 self.last = newer(told.verdict, self.last);
+                self.shared.follow(self.live.held());
                 Ok(told)
             }
             Err(refusal) => Err(refusal),
@@ -113,6 +133,7 @@ impl ListedLive {
         match self.live.missed(alloc, count, now, &mut self.lists) {
             Ok(told) => {
                 self.last = newer(told.verdict, self.last);
+                self.shared.miss();
                 Ok(told)
             }
             Err(refusal) => Err(refusal),
@@ -159,6 +180,109 @@ impl ListedLive {
     {
         let verdict = self.live.close(now);
         self.last = newer(verdict, self.last);
+    }
+
+    /// The groups that the program shares with the station.
+    pub fn shared(&self) -> &SharedGroups
+        ensures { result.now ≡ self.now.shared }
+    {
+        &self.shared
+    }
+
+    /// Shares a group from now on.
+    ///
+    /// Refused, in this order: `NoGroup` for a group of the protocol or of diagnostics, `OutOfMemory`; then nothing changed.
+    pub fn share(&mut self, pgn: Pgn) -> Result<(), SharedError>
+        ensures ok { OnOk result (self.new ≡ record self.old { shared = sharing_also pgn self.old.shared }) }
+        ensures err { OnErr result (self.new ≡ self.old) }
+        ensures no_group { IsErrOf result SharedError.NoGroup ↔ (is_sharable pgn ≡ false) }
+        ensures only { IfErr result (λ e. (e ≡ SharedError.NoGroup) ⊎ (e ≡ SharedError.OutOfMemory)) }
+    {
+        self.shared.share(pgn)
+    }
+
+    /// Puts a request for a group that is shared, to an address or to all (255).
+    ///
+    /// Refused, in this order: `NoGroup` for a group that is not shared, `NotHeld` where no address is held, `Full`; then nothing
+    /// changed.
+    pub fn request(&mut self, pgn: Pgn, to: u8) -> Result<(), SharedError>
+        ensures ok { OnOk result (self.new ≡ record self.old { shared = with_waiting (RequestWaiting pgn to) self.old.shared }) }
+        ensures err { OnErr result (self.new ≡ self.old) }
+        ensures no_group { IsErrOf result SharedError.NoGroup ↔ (is_shared self.old.shared.groups pgn ≡ false) }
+        ensures not_held { IsErrOf result SharedError.NotHeld ↔ ((is_shared self.old.shared.groups pgn ≡ true) × IsNone self.old.shared.held) }
+        ensures only { IfErr result (λ e. (e ≡ SharedError.NoGroup) ⊎ ((e ≡ SharedError.NotHeld) ⊎ (e ≡ SharedError.Full))) }
+    {
+        self.shared.request(pgn, to)
+    }
+
+    /// The groups that are shared hear a frame, before the station does. Answers whether it is the program's alone, and then the
+    /// station is not to hear it; and whether a message is whole with it.
+    ///
+    /// Refused, where it is: `Full`, `OutOfMemory`; then nothing changed. Where memory is refused for any other frame, what is half
+    /// joined from its source is dropped.
+    pub fn hear_shared(&mut self, alloc: Global, frame: &Frame) -> Result<SharedHeard, SharedError>
+        ensures ok { IfOk result (λ t. SharesFrame frame.now t.is_withheld t.is_whole self.old self.new) }
+        ensures err { OnErr result (self.new ≡ self.old) }
+        ensures only { IfErr result (λ e. (e ≡ SharedError.Full) ⊎ (e ≡ SharedError.OutOfMemory)) }
+    {
+        let group = ParameterGroup::read(frame);
+        if self.shared.withholds(frame, &group) {
+            let is_whole = self.shared.hear(alloc, frame, &group)?;
+            return Ok(SharedHeard {
+                is_withheld: true,
+                is_whole,
+            });
+        }
+        let is_whole = self.shared.hear_beside(alloc, frame, &group);
+        Ok(SharedHeard {
+            is_withheld: false,
+            is_whole,
+        })
+    }
+
+    /// The frame that goes at this time for the groups that are shared: the first that waits, once the station has settled.
+    pub fn pull_shared(&mut self, now: u64) -> Option<Frame>
+        ensures none { shared_goes now self.old ≡ false → (result ≡ None) × (self.new ≡ self.old) }
+        ensures some { shared_goes now self.old ≡ true → (result ≡ frame_due self.old.shared)
+            × IfSome result (λ _. self.new ≡ record self.old { shared = without_first self.old.shared }) }
+        ensures source { IfSome result (λ f. Some (source_of f.id) ≡ self.old.shared.held) }
+        ensures kept { IsNone result → self.new ≡ self.old }
+    {
+        if !self.shared_goes(now) {
+            return None;
+        }
+        self.shared.pull()
+    }
+
+    /// Whether something waits for the groups that are shared, and the station has settled.
+    fn shared_goes(&self, now: u64) -> bool
+        ensures { result ≡ shared_goes now self.now }
+    {
+        self.shared.waits() && has_come(self.live.free_from(), now)
+    }
+
+    /// When to look again for the groups that are shared, at this time or later: the greatest number where nothing waits.
+    pub fn next_shared(&self, now: u64) -> u64
+        ensures idle { (t : ℕ) → now ≤ t → t < result → shared_goes t self.now ≡ false }
+        ensures ahead { now ≤ result }
+    {
+        if !self.shared.waits() {
+            return u64::MAX;
+        }
+        match self.live.free_from() {
+            Some(from) => from.max(now),
+            None => u64::MAX,
+        }
+    }
+}
+
+/// Whether a time has come, if there is one.
+fn has_come(from: Option<u64>, now: u64) -> bool
+    ensures { result ≡ has_come from now }
+{
+    match from {
+        Some(from) => from <= now,
+        None => false,
     }
 }
 

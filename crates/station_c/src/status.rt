@@ -4,6 +4,7 @@ use can_frame::FrameError;
 use fault_memory::FaultError;
 use live_station::{HearError, OrderError};
 use live_unit::LiveError;
+use shared_groups::SharedError;
 use station_table::StationError;
 
 /// What a call from C answers.
@@ -61,12 +62,12 @@ pub enum Status {
     HasListener,
     /// Another order is open.
     OrderOpen,
-    /// The parameter group is none that an order asks for, or by which one clears.
+    /// The parameter group is none that an order asks for, or by which one clears; none that may be shared, or is.
     NoGroup,
 }
 
 impl Status {
-    ghost use Rattle.station_c.specs.Statuses.{status_number, status_of_fault, status_of_frame, status_of_hearing, status_of_live, status_of_order, status_of_station};
+    ghost use Rattle.station_c.specs.Statuses.{status_number, status_of_fault, status_of_frame, status_of_hearing, status_of_live, status_of_order, status_of_shared, status_of_station};
 
     /// The number that C sees: 0 where it was done; of a refusal that other crates give too, theirs, but for `NotPending`, whose
     /// number there is that of `NoStation` here; 33 where memory was refused.
@@ -168,6 +169,18 @@ impl Status {
         match refusal {
             OrderError::Open => Status::OrderOpen,
             OrderError::NotAnAddress => Status::NotAnAddress,
+        }
+    }
+
+    /// What stands for a refusal of groups that a program shares.
+    pub fn of_shared(refusal: SharedError) -> Status
+        ensures { result ≡ status_of_shared refusal }
+    {
+        match refusal {
+            SharedError::OutOfMemory => Status::OutOfMemory,
+            SharedError::Full => Status::QueueFull,
+            SharedError::NoGroup => Status::NoGroup,
+            SharedError::NotHeld => Status::NotHeld,
         }
     }
 }

@@ -5,4 +5,5 @@ mod frames;
 mod lists;
 mod open;
 mod orders;
+mod shared;
 mod units;

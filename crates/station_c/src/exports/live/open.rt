@@ -1,7 +1,8 @@
 //! A live station is opened in a handle, and closed.
-ghost use Rattle.std.specs.Prelude.{◌≡◌, ◌⊎◌, ◌↔◌, ◌<◌, ◌≤◌, [], None, true, false};
+ghost use Rattle.std.specs.Prelude.{◌≡◌, ◌⊎◌, ◌↔◌, ◌<◌, ◌≤◌, [], None, Some, true, false};
 ghost use Rattle.can_frame.specs.declared.address.TheConstants.{GREATEST_ADDRESS};
 ghost use Rattle.live_station.specs.Working.{begun_station};
+ghost use Rattle.shared_groups.specs.Sharing.{none_shared};
 ghost use Rattle.station_c.specs.LiveHandles.{HoldsLive, HoldsSameLive, has_live};
 ghost use Rattle.station_c.specs.LiveRecords.{are_in_range, times_told};
 ghost use Rattle.station_c.specs.Statuses.{Answers, DoneUnlessMemory};
@@ -33,6 +34,7 @@ pub extern "C" fn hidzgula_live_open(
       live = begun_station name address settings.now.grant (times_told settings.now);
       lists = record { keep = settings.now.keep; rows = [] };
       last = None;
+      shared = none_shared (Some address) settings.now.grant;
     } }
     ensures kept { ¬ Answers result Status.Done → HoldsSameLive handle.old handle.new }
     ensures bad_setting { Answers result Status.BadSetting ↔ ((GREATEST_ADDRESS < address) ⊎ (are_in_range settings.now ≡ false)) }

@@ -4,5 +4,5 @@ use Rattle.station_c.proofs.listed_live.ListedLive.hear.Goals as goal
 
 pub returns-in-Ok-clause-stands : goal.returns-in-Ok-clause-stands
 returns-in-Ok-clause-stands c =
-    stands_heard c.args.self.now c.self.inside.live c.hear.new.self c.self.inside.lists c.hear.new.lists c.newer-self-inside.result c.args.frame.now
+    stands_heard c.args.self.now c.self.inside.live c.hear.new.self c.self.inside.lists c.hear.new.lists c.newer-self-inside.result c.follow.new.self c.args.frame.now
     (search rules) (search rules) c.in-Ok.ensures.stands c.in-Ok.ensures.listed

@@ -4,5 +4,5 @@ use Rattle.station_c.proofs.listed_live.ListedLive.missed.Goals as goal
 
 pub returns-in-Ok-clause-stands : goal.returns-in-Ok-clause-stands
 returns-in-Ok-clause-stands c =
-    stands_missed c.args.self.now c.self.inside.live c.missed.new.self c.self.inside.lists c.missed.new.lists c.newer-self-inside.result c.args.count
+    stands_missed c.args.self.now c.self.inside.live c.missed.new.self c.self.inside.lists c.missed.new.lists c.newer-self-inside.result c.miss.new.self c.args.count
     (search rules) (search rules) c.in-Ok.ensures.stands c.in-Ok.ensures.lists

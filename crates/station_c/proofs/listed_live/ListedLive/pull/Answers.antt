@@ -4,5 +4,5 @@ use Rattle.station_c.proofs.listed_live.ListedLive.pull.Goals as goal
 
 pub returns-clause-stands : goal.returns-clause-stands
 returns-clause-stands c =
-    stands_pulled c.args.self.now c.self.inside.live c.pull-pulled.new.self c.self.inside.lists c.newer-self-inside.result c.args.now c.pull-pulled.result
+    stands_pulled c.args.self.now c.self.inside.live c.pull-pulled.new.self c.self.inside.lists c.newer-self-inside.result c.self.inside.shared c.args.now c.pull-pulled.result
     (search rules) (search rules) c.pull-pulled.ensures.turn

@@ -12,13 +12,15 @@ use Rattle.station_c.specs.HeldLives.{held_live}
 use Rattle.station_c.specs.contracts.live_handle.LiveHandle as handle
 use Rattle.station_c.specs.contracts.listed_live.ListedLive as listed
 use Rattle.entry_lists.specs.contracts.newest.NewestEntries as newest
-use Rattle.live_station.specs.contracts.echo.Echo as echo
+use Rattle.live_unit.specs.contracts.echo.Echo as echo
 use Rattle.live_station.specs.contracts.open.OpenOrder as order
 use Rattle.live_station.specs.contracts.station.LiveStation as live
 use Rattle.live_station.specs.contracts.verdict.Verdict as verdict
 use Rattle.live_unit.specs.contracts.clock.UnitClock as clock
 use Rattle.live_unit.specs.contracts.queue.Queue as queue
 use Rattle.live_unit.specs.contracts.told.Told as told
+use Rattle.shared_groups.specs.contracts.message.SharedMessage as message
+use Rattle.shared_groups.specs.contracts.shared.SharedGroups as shared
 use Rattle.station_table.specs.contracts.station.Station as station
 
 newest_send : IsSend newest.the_row
@@ -48,8 +50,14 @@ echo_send = search (sendable, crosses) depth 60 fits 20000
 live_send : IsSend live.the_row
 live_send = search (sendable, crosses, maps.crosses, station_send, queue_send, clock_send, echo_send, order_send) depth 60 fits 20000
 
+message_send : IsSend message.the_row
+message_send = search (sendable, crosses) depth 60 fits 20000
+
+shared_send : IsSend shared.the_row
+shared_send = search (sendable, crosses, maps.crosses, message_send) depth 60 fits 20000
+
 listed_send : IsSend listed.the_row
-listed_send = search (sendable, crosses, maps.crosses, newest_send, live_send, verdict_send) depth 60 fits 20000
+listed_send = search (sendable, crosses, maps.crosses, newest_send, live_send, verdict_send, shared_send) depth 60 fits 20000
 
 held-Keyless : (p : Ptr) (x : listed.the_row.Denot) → Keyless (held_live p x)
 held-Keyless (block_ptr b o) x = (lies listed.the_row listed_send (block_ptr b o) x, frees.frees heap _ (block_ptr b o))

@@ -15,6 +15,7 @@ use denote.Steps.{nothing}
 use denote.Triple.Walked.{walk_of}
 use Rattle.std.proofs.raw_atomic.Walks.{proved_at, leaves}
 use Rattle.live_station.specs.Working.{begun_station}
+use Rattle.shared_groups.specs.Sharing.{none_shared}
 use Rattle.station_c.specs.ListedLives.{ListedLiveValue}
 use Rattle.station_c.proofs.MachineValues.{both}
 use Rattle.station_c.proofs.LiveHandleValues.{handle_in}
@@ -27,7 +28,7 @@ pub empty_spec : {M : Type 1} → statement M
 empty_spec 𝓤 𝓛 𝓜 𝓡 wired =
     let H = 𝓛.H in let 𝓣 = tables 𝓤 H 𝓜 𝓡 𝓡.env in let c = clauses 𝓛 𝓜.mem 𝓡.returns in
     proved_at 𝓛 ended tt c 𝓜 𝓡 tt #self code.function (code.unfolded 𝓤 H 𝓜 𝓡 wired) (λ z are.
-    let Post : Val → SProp 𝓤 = (walk_of 𝓛 ended tt c).post z in let w : Val = both vnull (vbool false) in let none : ListedLiveValue = record { live = begun_station 0 0 1 (record { gap = 0; settle = 0 }); lists = record { keep = 0; rows = [] }; last = None } in
+    let Post : Val → SProp 𝓤 = (walk_of 𝓛 ended tt c).post z in let w : Val = both vnull (vbool false) in let none : ListedLiveValue = record { live = begun_station 0 0 1 (record { gap = 0; settle = 0 }); lists = record { keep = 0; rows = [] }; last = None; shared = none_shared None 1 } in
     qed 𝓛 ((‵ ftrue ⊛ ‵ ftrue) ∷ raw ((c z.0.0 z.0.3).requires z.1) ∷ []) ∵ drop ! $ drop ! $
     enter ! 𝓣.C 𝓣.Λ code.function [] Post $ alloc_all ! (λ l. pass_all ! refl tt $
     sets ! (agg ! (and_then ! (lit ! tt) (and_then ! (false_lit !) (no_more !)))) refl (tt, (record { fits = lit< tt }, (tt, tt))) $

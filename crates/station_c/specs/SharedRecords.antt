@@ -1,0 +1,16 @@
+-- What the record of a message says that a program shares, and what its calls do.
+use Rattle.std.specs.Prelude.{◌≡◌, ◌≤◌, ◌==◌, ℕ, length, take, Option, Some, None, if◌then◌else◌}
+use Rattle.shared_groups.specs.Sharing.{MessageValue}
+use Rattle.station_c.specs.declared.shared_records.TheConstants.{MOST_BYTES}
+use Rattle.station_c.specs.declared.shared_records.MessageRecord.{MessageRecord}
+
+-- the NAME in a record, none where its flag is 0
+abbrev pub name_under : ℕ → ℕ → Option ℕ
+name_under has name = if has == 0 then None else Some name
+
+-- a record has a message: who sent it, the NAME that held that address throughout, its group and bytes
+pub record TellsMessage (r : MessageRecord) (m : MessageValue) : Type 0 where
+  pub source : r.source ≡ m.source
+  pub owner : name_under r.has_name r.name ≡ m.owner
+  pub pgn : r.pgn ≡ m.pgn
+  pub bytes : length m.bytes ≤ MOST_BYTES → (r.size ≡ length m.bytes) × (take r.size r.bytes ≡ m.bytes)

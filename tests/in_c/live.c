@@ -7,7 +7,7 @@ static hidzgula_unit unit = HIDZGULA_EMPTY;
 static const uint8_t bytes[9] = { 0xA0, 0, 0, 0, 0, 0, 0, 0, 0 };
 static uint64_t now;
 
-enum { NAME = 0x1419907, UNKNOWN = 0xA0, SECOND = 1000000, OWN = 249 };
+enum { NAME = 0x1419907, UNKNOWN = 0xA0, SECOND = 1000000, OWN = 249, VIN = 65260 };
 static const uint64_t own_name = 0x10000000000000FA;
 
 /* everything that a call can write, filled with bytes that no call writes */
@@ -18,9 +18,10 @@ static struct written {
     hidzgula_row_out row;
     hidzgula_entry_out entry;
     hidzgula_code_out code;
+    hidzgula_message message;
     size_t count;
     uint64_t at, entries, missed, unread;
-    uint8_t has, address;
+    uint8_t has, address, withheld, whole;
 } out, before;
 
 static void fill(void)
@@ -52,7 +53,17 @@ static void on_empty(const char *when)
     is(when, hidzgula_live_entries(&live, NAME, HIDZGULA_DM1, &out.entries), HIDZGULA_NO_STATION);
     is(when, hidzgula_live_entry(&live, NAME, HIDZGULA_DM2, 0, &out.entry), HIDZGULA_NO_STATION);
     is(when, hidzgula_live_code(&live, NAME, HIDZGULA_DM6, 0, 0, &out.code), HIDZGULA_NO_STATION);
+    is(when, hidzgula_live_share(&live, VIN), HIDZGULA_NO_STATION);
+    is(when, hidzgula_live_shared_ask(&live, 0, VIN), HIDZGULA_NO_STATION);
+    is(when, hidzgula_live_shared_hear(&live, 0x18EEFF00, bytes, 8, &out.withheld, &out.whole), HIDZGULA_NO_STATION);
+    is(when, hidzgula_live_shared_next(&live, now, &out.frame, &out.has), HIDZGULA_NO_STATION);
+    is(when, hidzgula_live_shared_when(&live, now, &out.at), HIDZGULA_NO_STATION);
+    is(when, hidzgula_live_shared_message(&live, &out.message), HIDZGULA_NO_STATION);
     /* what is wrong with the arguments is told first */
+    is(when, hidzgula_live_share(&live, 1u << 24), HIDZGULA_PGN_TOO_LARGE);
+    is(when, hidzgula_live_shared_ask(&live, 0, UINT32_MAX), HIDZGULA_PGN_TOO_LARGE);
+    is(when, hidzgula_live_shared_hear(&live, 1u << 29, bytes, 9, &out.withheld, &out.whole), HIDZGULA_ID_TOO_LARGE);
+    is(when, hidzgula_live_shared_hear(&live, 0, bytes, 9, &out.withheld, &out.whole), HIDZGULA_TOO_LONG);
     is(when, hidzgula_live_hear(&live, 1u << 29, bytes, 9, now, &out.change), HIDZGULA_ID_TOO_LARGE);
     is(when, hidzgula_live_hear(&live, 0, bytes, 9, now, &out.change), HIDZGULA_TOO_LONG);
     is(when, hidzgula_live_ask(&live, NAME, HIDZGULA_PGN_DM3), HIDZGULA_NO_GROUP);
@@ -98,6 +109,11 @@ static void refused_by_arguments(void)
     is("row 0", hidzgula_live_row(&live, 0, &out.row), HIDZGULA_NO_PLACE);
     is("entry 0", hidzgula_live_entry(&live, NAME, HIDZGULA_DM1, 0, &out.entry), HIDZGULA_NO_PLACE);
     is("code 0", hidzgula_live_code(&live, NAME, HIDZGULA_DM1, 0, 0, &out.code), HIDZGULA_NO_PLACE);
+    static const uint32_t diagnostic[] = { 59392, 59904, 60160, 60416, 60928, 65226, 65227, 65228, 65231, 65235, 65240 };
+    for (size_t i = 0; i < sizeof diagnostic / sizeof diagnostic[0]; i++)
+        is("a group of the station's", hidzgula_live_share(&live, diagnostic[i]), HIDZGULA_NO_GROUP);
+    is("no message", hidzgula_live_shared_message(&live, &out.message), HIDZGULA_NO_PLACE);
+    is("a group that is not shared", hidzgula_live_shared_ask(&live, 0, VIN), HIDZGULA_NO_GROUP);
     is("kind 0", hidzgula_live_entry(&live, NAME, 0, 0, &out.entry), HIDZGULA_NO_KIND);
     is("kind 255", hidzgula_live_code(&live, NAME, 255, 0, 0, &out.code), HIDZGULA_NO_KIND);
     nothing_written("what was refused writes nothing");
@@ -116,9 +132,40 @@ static char written[1 << 16]; /* what was written since it was looked at, as 18E
 static uint32_t lost_id; /* one frame of this identifier is lost */
 static bool unit_is_deaf;
 
+static bool is_sharing;
+static unsigned messages;
+
 static void heard_by_station(const hidzgula_frame *frame)
 {
+    uint8_t withheld = 0, whole = 0;
+    if (is_sharing) {
+        is("shared groups hear", hidzgula_live_shared_hear(&live, frame->id, frame->bytes, frame->length, &withheld, &whole), HIDZGULA_DONE);
+        messages += whole;
+    }
+    if (withheld) return;
     is("the station hears", hidzgula_live_hear(&live, frame->id, frame->bytes, frame->length, now, &out.change), HIDZGULA_DONE);
+}
+
+/* a unit at 7 that tells its VIN in a session, and its frames that are to go */
+static const char vin[] = "HIDZGULA1VIN00001";
+static hidzgula_frame to_go[16];
+static unsigned going;
+static bool has_vin_unit;
+
+static void goes(uint32_t id, uint8_t a, uint8_t b, uint8_t c, uint8_t d, uint8_t e, uint8_t f, uint8_t g, uint8_t h)
+{
+    to_go[going++ % 16] = (hidzgula_frame) { id, 8, { a, b, c, d, e, f, g, h } };
+}
+
+static void heard_by_vin_unit(const hidzgula_frame *frame)
+{
+    if (frame->id == 0x18EA07F9 && frame->bytes[0] == 0xEC && frame->bytes[1] == 0xFE) goes(0x1CECF907, 0x10, 17, 0, 3, 255, 0xEC, 0xFE, 0);
+    if (frame->id != 0x1CEC07F9 || frame->bytes[0] != 0x11) return;
+    for (unsigned n = frame->bytes[2]; n < frame->bytes[2] + frame->bytes[1] * 1u; n++) {
+        uint8_t p[7];
+        for (unsigned i = 0; i < 7; i++) p[i] = 7 * (n - 1) + i < 17 ? (uint8_t)vin[7 * (n - 1) + i] : 0xFF;
+        goes(0x1CEBF907, (uint8_t)n, p[0], p[1], p[2], p[3], p[4], p[5], p[6]);
+    }
 }
 
 static void carry(const hidzgula_frame *frame)
@@ -132,6 +179,7 @@ static void carry(const hidzgula_frame *frame)
         return;
     }
     heard_by_station(frame);
+    if (has_vin_unit) heard_by_vin_unit(frame);
     if (unit.at && !unit_is_deaf) is("the unit hears", hidzgula_unit_hear(&unit, frame->id, frame->bytes, frame->length, now), HIDZGULA_DONE);
 }
 
@@ -143,9 +191,14 @@ static void run(uint64_t until)
         uint8_t has = 0;
         uint64_t at = UINT64_MAX, other = UINT64_MAX;
         while (hidzgula_live_next(&live, now, &frame, &has) == HIDZGULA_DONE && has) carry(&frame);
+        while (hidzgula_live_shared_next(&live, now, &frame, &has) == HIDZGULA_DONE && has) carry(&frame);
+        for (unsigned i = 0; i < going; i++) carry(&to_go[i % 16]);
+        going = 0;
         while (unit.at && hidzgula_unit_next(&unit, now, &frame, &has) == HIDZGULA_DONE && has) carry(&frame);
         is("when", hidzgula_live_when(&live, now, &at), HIDZGULA_DONE);
         if (unit.at) hidzgula_unit_when(&unit, now, &other);
+        if (other < at) at = other;
+        is("when", hidzgula_live_shared_when(&live, now, &other), HIDZGULA_DONE);
         if (other < at) at = other;
         if (at >= until) break;
         now = at;
@@ -363,6 +416,56 @@ static void is_full(void)
     ended();
 }
 
+/* a group is shared: a unit's VIN comes by a session with the station, beside its DM2; its claim by another NAME drops what is half joined */
+static void shares(uint8_t grant, bool is_shared)
+{
+    is_sharing = true;
+    begun(grant, 40, 0);
+    has_vin_unit = true;
+    messages = 0;
+    goes(0x18EEFF07, 0xA1, 0, 0, 0, 0, 0, 0, 0);
+    seconds(1);
+    if (is_shared) {
+        is("shares", hidzgula_live_share(&live, VIN), HIDZGULA_DONE);
+        is("shares again", hidzgula_live_share(&live, VIN), HIDZGULA_DONE);
+        is("no message yet", hidzgula_live_shared_message(&live, &out.message), HIDZGULA_NO_PLACE);
+    }
+    is("asks for DM2", hidzgula_live_ask(&live, NAME, HIDZGULA_PGN_DM2), HIDZGULA_DONE);
+    if (is_shared) is("asks for the VIN", hidzgula_live_shared_ask(&live, 7, VIN), HIDZGULA_DONE);
+    else goes(0x1CECF907, 0x10, 17, 0, 3, 255, 0xEC, 0xFE, 0);
+    seconds(8);
+    told("DM2 came", HIDZGULA_ANSWERED);
+    newest_has("40 codes", HIDZGULA_DM2, 40);
+    is("the session is aborted where the group is not shared", went("1CEC07F9#FF02FFFFFFECFE00\n"), !is_shared);
+    is("its request", went("18EA07F9#ECFE00\n"), is_shared);
+    is("its packets are granted", went("1CEC07F9#11"), is_shared);
+    is("its end", went("1CEC07F9#13110003FFECFE00\n"), is_shared);
+    is("one message", messages, is_shared);
+    if (is_shared) {
+        is("it is there", hidzgula_live_shared_message(&live, &out.message), HIDZGULA_DONE);
+        is("its group", out.message.pgn, VIN);
+        is("its size", out.message.size, 17);
+        is("its source", out.message.source, 7);
+        is("its NAME", out.message.has_name * 1000u + out.message.name, 1000 + 0xA1);
+        is("its bytes", (unsigned long)memcmp(out.message.bytes, vin, 17), 0);
+        is("a request to the station is the program's", hidzgula_live_shared_hear(&live, 0x18EAF907, (const uint8_t[]) { 0xEC, 0xFE, 0 }, 3, &out.withheld, &out.whole), HIDZGULA_DONE);
+        is("so it is withheld", out.withheld * 2u + out.whole, 2);
+        is("one of DM2 is the station's", hidzgula_live_shared_hear(&live, 0x18EAF907, (const uint8_t[]) { 0xCB, 0xFE, 0 }, 3, &out.withheld, &out.whole), HIDZGULA_DONE);
+        is("so it is not", out.withheld * 2u + out.whole, 0);
+        /* its address changes hands between two packets */
+        has_vin_unit = false;
+        goes(0x1CECF907, 0x10, 17, 0, 3, 255, 0xEC, 0xFE, 0);
+        goes(0x1CEBF907, 1, 'H', 'I', 'D', 'Z', 'G', 'U', 'L');
+        goes(0x18EEFF07, 0xA2, 0, 0, 0, 0, 0, 0, 0);
+        goes(0x1CEBF907, 2, 'H', 'I', 'D', 'Z', 'G', 'U', 'L');
+        goes(0x1CEBF907, 3, 'H', 'I', 'D', 'Z', 'G', 'U', 'L');
+        seconds(1);
+        is("no message of two NAMEs", messages, 1);
+    }
+    is_sharing = has_vin_unit = false;
+    ended();
+}
+
 int main(void)
 {
     on_empty("empty");
@@ -387,6 +490,9 @@ int main(void)
     is_not_answered();
     doubts();
     is_full();
+    shares(255, true);
+    shares(1, true);
+    shares(255, false);
     on_empty("closed");
     return sums();
 }

@@ -48,7 +48,7 @@ void __wrap_free(void *block)
     __real_free(block);
 }
 
-enum { STEPS = 3000, OWN = 249, UNITS = 12 };
+enum { STEPS = 3000, OWN = 249, UNITS = 12, VIN = 65260 };
 
 static uint32_t seed;
 
@@ -69,13 +69,23 @@ static uint64_t sum;
 
 static void add(uint64_t value) { sum = (sum ^ value) * 0x100000001B3u; }
 
-/* a frame from one of some units: a claim, a DM1, what begins a session of a DM2 and its packets, an acknowledgment, a request */
+/* a frame is heard by the groups that are shared, and by the station where it is not theirs alone */
+static uint32_t heard(hidzgula_live *live, uint32_t id, const uint8_t *bytes, uint64_t now, hidzgula_change *change)
+{
+    uint8_t withheld = 0, whole = 0;
+    uint32_t answer = hidzgula_live_shared_hear(live, id, bytes, 8, &withheld, &whole);
+    if (answer != HIDZGULA_DONE || withheld) return answer;
+    return hidzgula_live_hear(live, id, bytes, 8, now, change);
+}
+
+/* a frame from one of some units: a claim, a DM1, what begins a session of a DM2 or a VIN and its packets, an acknowledgment, a request */
 static uint32_t hear(hidzgula_live *live, uint32_t which, uint32_t more, uint64_t now, hidzgula_change *change)
 {
     uint32_t from = which % UNITS;
     const uint8_t claim[8] = { (uint8_t)(0xA0 + more % UNITS), 0, 0, 0, 0, 0, 0, 0x80 };
     const uint8_t dm1[8] = { 0x04, 0xFF, (uint8_t)more, 1, 3, 1, 0xFF, 0xFF };
     const uint8_t rts[8] = { 16, 10, 0, 2, 0xFF, HIDZGULA_PGN_DM2 & 0xFF, HIDZGULA_PGN_DM2 >> 8, 0 };
+    const uint8_t vin[8] = { 16, 10, 0, 2, 0xFF, VIN & 0xFF, VIN >> 8, 0 };
     const uint8_t bam[8] = { 32, 10, 0, 2, 0xFF, HIDZGULA_PGN_DM1 & 0xFF, HIDZGULA_PGN_DM1 >> 8, 0 };
     /* two codes that can be read: what cannot be needs no memory to be counted */
     const uint8_t first[8] = { 1, 0, 0xFF, (uint8_t)which, 1, 3, 1, 7 }, second[8] = { 2, 1, 3, 1, 0xFF, 0xFF, 0xFF, 0xFF };
@@ -84,15 +94,15 @@ static uint32_t hear(hidzgula_live *live, uint32_t which, uint32_t more, uint64_
     const uint8_t request[3] = { 0, 0xEE, 0 };
     switch (which / UNITS % 8) {
     case 0:
-        return hidzgula_live_hear(live, 0x18EEFF00 | from, claim, 8, now, change);
+        return heard(live, 0x18EEFF00 | from, claim, now, change);
     case 1:
         return hidzgula_live_hear(live, 0x18FECA00 | from, dm1, 8, now, change);
     case 2:
-        return hidzgula_live_hear(live, 0x1CECF900 | from, rts, 8, now, change);
+        return heard(live, 0x1CECF900 | from, more % 3 ? rts : vin, now, change);
     case 3:
         return hidzgula_live_hear(live, 0x1CECFF00 | from, bam, 8, now, change);
     case 4:
-        return hidzgula_live_hear(live, 0x1CEBF900 | from, packet, 8, now, change);
+        return heard(live, 0x1CEBF900 | from, packet, now, change);
     case 5:
         return hidzgula_live_hear(live, 0x1CEBFF00 | from, packet, 8, now, change);
     case 6:
@@ -119,7 +129,7 @@ static uint32_t done(hidzgula_live *live, uint32_t what, uint32_t which, uint32_
     if (what < 55) answer = hear(live, which, more, now, &told->change);
     else if (what < 60) answer = ordered(live, which, more);
     else if (what == 60 && more < 10) answer = hidzgula_live_missed(live, more, now, &told->change);
-    else answer = hidzgula_live_next(live, now, &told->frame, &told->has);
+    else answer = more % 2 ? hidzgula_live_next(live, now, &told->frame, &told->has) : hidzgula_live_shared_next(live, now, &told->frame, &told->has);
     counts = false;
     return answer;
 }
@@ -132,11 +142,17 @@ static uint64_t told_by(hidzgula_live *live, uint64_t now)
     size_t rows = 0, before = requests;
     uint8_t has = 0, address = 0;
     hidzgula_verdict verdict;
+    static hidzgula_message message;
     memset(&verdict, 0, sizeof verdict);
+    memset(&message, 0, sizeof message);
     sum = 0xCBF29CE484222325u;
     counts = true;
     add(hidzgula_live_when(live, now, &at));
     add(at);
+    add(hidzgula_live_shared_when(live, now, &at));
+    add(at);
+    add(hidzgula_live_shared_message(live, &message));
+    add(message.name ^ (message.size * 256u + message.bytes[1]));
     add(hidzgula_live_held(live, &has, &address));
     add(has * 256u + address);
     add(hidzgula_live_counts(live, &missed, &unread));
@@ -175,6 +191,16 @@ static uint32_t opened(hidzgula_live *live)
     return answer;
 }
 
+/* it shares a group, at the second try where memory was refused */
+static bool shares(hidzgula_live *live)
+{
+    counts = true;
+    uint32_t answer = hidzgula_live_share(live, VIN);
+    if (answer == HIDZGULA_OUT_OF_MEMORY && was_refused) answer = hidzgula_live_share(live, VIN);
+    counts = false;
+    return answer == HIDZGULA_DONE;
+}
+
 /* one run, in which one request is refused; NULL where all is well */
 static const char *run(size_t one, unsigned *at)
 {
@@ -194,6 +220,7 @@ static const char *run(size_t one, unsigned *at)
     } else if (was_refused) {
         return "open was done without memory";
     }
+    if (!shares(&live)) return "a group is not shared";
     bool seen = was_refused;
     for (unsigned i = 0; i < STEPS; i++) {
         uint32_t what = drawn(100), which = drawn(256), more = drawn(100);

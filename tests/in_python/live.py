@@ -12,7 +12,9 @@ from hidzgula import (
     Code,
     Doubt,
     Finding,
+    Frame,
     LiveStation,
+    SharedMessage,
     SimulatedUnit,
     What,
 )
@@ -112,6 +114,47 @@ def guarded():
         same("nothing is kept", (station.verdict.finding, station.verdict.message, station.count(ENGINE, DM1)), (Finding.ANSWERED, None, 1))
 
 
+VIN = b"HIDZGULA1VIN00001"
+
+
+class Teller:
+    """A unit at 7 that tells its VIN to who asks for it, in a session."""
+
+    def __init__(self):
+        self.written = [(0x18EEFF07, b"\xa1" + bytes(7))]
+
+    def hear(self, id, data, now):
+        if (id, data[:3]) == (0x18EA07F9, b"\xec\xfe\0"):
+            self.written.append((0x1CECF907, bytes([16, len(VIN), 0, 3, 255]) + b"\xec\xfe\0"))
+        elif id == 0x1CEC07F9 and data[0] == 17:
+            for number in range(data[2], data[2] + data[1]):
+                self.written.append((0x1CEBF907, bytes([number]) + VIN[7 * number - 7 : 7 * number].ljust(7, b"\xff")))
+
+    def next(self, now):
+        return Frame(*self.written.pop(0)) if self.written else None
+
+    def when(self, now):
+        return now if self.written else None
+
+
+def shared():
+    """A VIN comes at the station's own address, while a unit tells it a DM2 of 40 codes."""
+    told = []
+    with LiveStation(OWN, 249, grant=1, share=(65260,), on_message=told.append) as station, SimulatedUnit(ENGINE, 0) as unit:
+        for spn in range(100, 140):
+            unit.set(spn, 3)
+            unit.heal(spn, 3)
+        bus = Bus(station, unit, Teller())
+        bus.run(2)
+        station.ask(ENGINE, DM2)
+        station.request(7, 65260)
+        bus.run(8)
+        same("the VIN", told, [SharedMessage(65260, 7, 0xA1, VIN)])
+        same("the newest", station.shared_message, told[0])
+        same("and the DM2", (station.verdict.finding, len(station.verdict.message.codes)), (Finding.ANSWERED, 40))
+        same("another group is not shared", raised(station.request, 7, 65259).name, "NO_GROUP")
+
+
 def refused():
     for words in ({"grant": 0}, {"gap": 9_999}, {"gap": 200_001}, {"settle": 1_000_001}, {"gap": 2**70}):
         same(f"a setting {words}", raised(LiveStation, OWN, 249, **words).name, "BAD_SETTING")
@@ -142,5 +185,6 @@ def refused():
 
 orders()
 guarded()
+shared()
 refused()
 sums()

@@ -236,9 +236,14 @@ def of_units():
 def of_live_stations():
     with hidzgula.LiveStation(1, 249) as station:
         refused("a group", "NO_GROUP", station.ask, 0xA0, 65260)
+        refused("a group of the station's", "NO_GROUP", station.share, 65226)
+        refused("a group of 25 bits", "PGN_TOO_LARGE", station.share, 2**24)
+        refused("a group that is not shared", "NO_GROUP", station.request, 0, 65260)
+        same("no message", station.shared_message, None)
         station.ask(0xA0, DM1)
         refused("a second order", "ORDER_OPEN", station.ask, 0xA0, DM1)
         refused("a second order, whatever it is", "ORDER_OPEN", station.command, 0xA0, 254)
+    refused("a group of the protocol", "NO_GROUP", hidzgula.LiveStation, 1, 249, share=(65260, 60928))
 
 
 def numbers():

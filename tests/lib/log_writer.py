@@ -11,7 +11,8 @@ from model.frames import (ABORT, ACKNOWLEDGMENT, BAM, CLAIM, COMMANDED_ADDRESS, 
 DMS = list(KINDS.values())
 OTHERS = [65259, 65260, 65242, COMMANDED_ADDRESS, DM3, DM11, 130762, 130763, 61444, CLAIM]
 TOOLS = [249, 248, 250]
-VIN = 65260
+VIN, SOFTWARE = 65260, 65242
+IDENTIFICATIONS = [VIN, VIN, 65259, SOFTWARE, 64965]
 NAMES = [0x1000000001419907, 0x1000030006E00899, 0x90008100258004D2, 0x10003D0001419908, 0xA00C81045A20021B, 0x0000000000000001, 0, 0xFFFFFFFFFFFFFFFF]
 DAY = 86_400_000_000
 
@@ -27,7 +28,7 @@ class Frames:
         self.name_at = {place: chance.choice(self.names) for place in self.places + self.tools}
         self.last = {}  # the last message of each unit and kind
         self.answered = {}  # the last acknowledgment of each unit
-        self.vins = {}  # what each unit told last
+        self.identified = {}  # what each unit told last of each group
         self.running = []
 
     def bytes(self, count):
@@ -130,24 +131,28 @@ class Frames:
             self.last[key] = self.long_payload() if long else self.short_payload()
         return self.last[key]
 
-    def vin(self, source):
-        """Most often the one that the unit told before; of any bytes, too."""
-        chance = self.chance
-        if source not in self.vins or chance.random() < 0.2:
-            text = bytes(chance.choice(b"0123456789ABCDEFGHJKLMNPRSTUVWXYZ") for _ in range(chance.choice([17, 17, 17, 17, 3, 39, 40, 41, 60])))
-            way = chance.random()
-            if way > 0.92:
-                text = b""
-            if way < 0.3:
-                text = chance.choice([b"=1+1", b"<b>", b'","', b"\x1b[31m", b"\xe9\x00", b"\\\"", b""]) + text[: chance.choice([0, 1, 17])]
-            self.vins[source] = text + chance.choice([b"*", b"*", b"*", b"", b"*7*", b"\xff"])
-        return self.vins[source]
+    def identification(self, source):
+        """A group, and most often the text that the unit told before; of any bytes, too."""
+        chance, pgn = self.chance, self.chance.choice(IDENTIFICATIONS)
+        if (source, pgn) not in self.identified or chance.random() < 0.2:
+            fields = [self.field() for _ in range(1 if pgn == VIN else chance.choice([0, 1, 2, 4, 5, 6, 7]))]
+            text = b"*".join(fields) + chance.choice([b"*", b"*", b"*", b"", b"*7*", b"**", b"\xff"])
+            self.identified[source, pgn] = bytes([len(fields)]) + text if pgn == SOFTWARE else text
+        return pgn, self.identified[source, pgn]
+
+    def field(self):
+        chance, way = self.chance, self.chance.random()
+        text = bytes(chance.choice(b"0123456789ABCDEFGHJKLMNPRSTUVWXYZ") for _ in range(chance.choice([17, 17, 17, 17, 3, 39, 60, 199, 200, 201])))
+        if way > 0.92:
+            return b""
+        return chance.choice([b"=1+1", b"<b>", b'","', b"\x1b[31m", b"\xe9\x00", b"\\\"", b""]) + text[: chance.choice([0, 1, 17])] if way < 0.3 else text
 
     def single(self):
-        """A DM1, DM2 or DM6 in one frame, or a VIN; sometimes of another data page."""
+        """A DM1, DM2 or DM6 in one frame, or an identification; sometimes of another data page."""
         if self.chance.random() < 0.1:
             source = self.anyone()
-            return to_all(6, VIN | (self.chance.random() < 0.02) << 16, source, self.vin(source)[:8].ljust(self.chance.choice([0, 8]), b"\xff"))
+            pgn, text = self.identification(source)
+            return to_all(6, pgn | (self.chance.random() < 0.02) << 16, source, text[:8].ljust(self.chance.choice([0, 8]), b"\xff"))
         source, kind = self.anyone(), self.chance.choice([*DMS, DMS[0], DMS[0]])
         return to_all(self.chance.choice([6, 6, 3]), kind | (self.chance.random() < 0.02) << 16, source, self.payload(source, kind, False))
 
@@ -170,7 +175,8 @@ class Frames:
             kind = chance.choice(DMS)
             return kind, self.payload(source, kind, True) if chance.random() < 0.98 else self.bytes(9)
         if way < 0.8:
-            return VIN, self.vin(source).ljust(9, b"\xff")
+            pgn, text = self.identification(source)
+            return pgn, text.ljust(9, b"\xff")
         return chance.choice(OTHERS), self.bytes(chance.choice([9, 10, 14, 15, 20]))
 
     def packets(self, payload, source, dest):

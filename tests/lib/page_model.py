@@ -7,6 +7,7 @@ import re
 
 from model.ever import Told, codes_ever, lamps_ever, rank, silence
 from model.ever_reported import duration
+from model.identifications import FIELDS
 from model.words import FAILURE_MODES, trouble_words
 
 WORST = ["stop", "amber", "mil", "protect"]
@@ -16,6 +17,8 @@ ACKNOWLEDGED = ["acknowledged a request of group", "refused a request of group",
 LISTED, IN_A_ROW = 20, 8
 LEAST = 0.3  # how wide a bar is at least, in percent
 ROWS, HANDOVERS, CHANGES, LANES = 1000, 50, 500, 64
+# Of each identification but the VIN its key in JSON, its word on the page, and the names of its fields.
+IDENTIFIED = {"component": ("component", FIELDS[65259]), "software": ("software", []), "ecu": ("ECU", FIELDS[64965])}
 
 
 def micros(time):
@@ -32,6 +35,14 @@ def clock(time, thousandths=False):
 def shortened(text, most):
     """A text of so many bytes at most, and a mark where it has more."""
     return text if len(text.encode()) <= most else text.encode()[:most].decode(errors="ignore") + "…"
+
+
+def identification_words(fields, names):
+    """Fields that are not empty, each behind its name; of a text that is cut the front, and dots."""
+    text = "*".join(fields)
+    is_cut = len(re.sub(r"\\x[0-9A-F]{2}", "?", text)) > 200
+    told = [(names[at] + " " if at < len(names) else "") + field for at, field in enumerate((text[:-3] if is_cut else text).split("*")) if field]
+    return (", ".join(told) or "-") + ("..." if is_cut else "")
 
 
 def counted(count, one, many):
@@ -161,7 +172,7 @@ class Page:
                 self.changes.append([event, self.label(self.key(event)), f"a {event['kind'].upper()} that could not be read"])
             elif told in ("dm1", "dm2", "dm6"):
                 self.changes.append([event, self.label(self.key(event)), f"{told.upper()}: {self.brief(event)}"])
-            if told not in ("unit", "missed", "vin") and event["name"] is None:
+            if told not in ("unit", "missed", "vin", "component", "software", "ecu") and event["name"] is None:
                 heard.add(self.key(event))
 
     def end_span(self, key, at):
@@ -326,6 +337,7 @@ class Unit:
         """Its row of the table: what it is called, then each cell."""
         said = f" {Name(self.row_of['name']).words()}" if self.row_of["name"] else ""
         said += f" VIN {' '.join(self.row_of['vin'].split())}" if "vin" in self.row_of else ""
+        said += "".join(f" {word}: {' '.join(identification_words(self.row_of[key], names).split())}" for key, (word, names) in IDENTIFIED.items() if key in self.row_of)
         address = self.row_of["address"] if self.row_of["address"] is not None else "not known" if self.presence == "unknown" else "none"
         counts = [str(sum(run["times"] for run in self.row_of[kind])) for kind in ("dm1", "dm2", "dm6")]
         return [self.page.label(self.key) + said, str(address), self.lamps(), self.faults(), self.ever(), *counts]
@@ -412,7 +424,7 @@ def tight(text):
 
 def vins_of(page):
     """The VINs in its head."""
-    return [text_of(it) for it in re.findall(r'<p class="vin">VIN <b>(.*?)</b></p>', page)]
+    return [text_of(it) for it in re.findall(r'<p class="vin text">VIN <b>(.*?)</b></p>', page)]
 
 
 def rows_of(page):

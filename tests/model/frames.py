@@ -125,9 +125,9 @@ def bam(size, pgn, source):
     return to_one(7, CONTROL, GLOBAL, source, data)
 
 
-def abort(pgn, dest, source):
-    """The one reason that is written is 2: resources are needed elsewhere."""
-    return to_one(7, CONTROL, dest, source, bytes([ABORT, 2, 255, 255, 255]) + three(pgn))
+def abort(pgn, dest, source, reason=2):
+    """Reason 2: resources are needed elsewhere."""
+    return to_one(7, CONTROL, dest, source, bytes([ABORT, reason, 255, 255, 255]) + three(pgn))
 
 
 def control_of(frame):

@@ -4,7 +4,7 @@ Written from docs/LIVE.md and docs/DECISIONS.md ("Times on a real bus" and those
 `model.unit`'s, the lanes in which it waits are `model.lanes`'.
 """
 
-from .frames import (ABORT, CLAIM, CONTROL, CTS, DM1, DM2, DM6, END_OF_MESSAGE, GLOBAL, Frame, LAST_ADDRESS, PACKET, REQUEST, RTS, TITLES, acknowledgment,
+from .frames import (ABORT, CLAIM, CONTROL, CTS, DM1, DM2, DM6, END_OF_MESSAGE, GLOBAL, Frame, LAST_ADDRESS, PACKET, REQUEST, RTS, TITLES, abort, acknowledgment,
                      broadcast, claim, claimed_name, control_of, control_pgn, packet, packets_of, requested, rts, three, to_all, to_one)
 from .lanes import ANSWER_WITHIN, DAY, HELD_FOR, LANES, ROOM, Lanes
 from .memory import Code
@@ -12,6 +12,7 @@ from .unit import ALL, SESSION, Session, Unit
 
 DM1_PERIOD = 1_000_000
 MOST_CHANGES = 445
+ECHOES, VIOLATION_PERIOD = 64, 5_000_000
 LAMPS = "lamps"
 
 
@@ -21,8 +22,8 @@ def needs_room(frame):
 
 
 def parting(session, source, reason=3):
-    """An abort: for want of an answer, reason 3, or since a packet was asked for too often, 5 (J1939-21, 5.10.3)."""
-    return to_one(7, CONTROL, session.dest, source, bytes([ABORT, reason, 255, 255, 255]) + three(session.kind))
+    """An abort: for want of an answer, reason 3; since packets were cleared that are on their way, 4; or asked for too often, 5 (J1939-21, 5.10.3)."""
+    return abort(session.kind, session.dest, source, reason)
 
 
 class Wire(list):
@@ -181,8 +182,11 @@ def identification(vin=None, component=None, software=None, ecu=None):
 class LiveUnit(Lanes, Unit):
     """A unit with its lanes and its times. All frames of the bus are heard, its own too."""
 
-    def __init__(self, name, address, kind, wire, gap, settle, always, cyclic=(), answers=(), repeated=(), faults=()):
+    def __init__(self, name, address, kind, wire, gap, settle, always, cyclic=(), answers=(), repeated=(), faults=(), violations=False):
         self.stand(gap, settle)
+        # whether it answers violations of its address; what it wrote, and so many of these before the one behind that which came back last
+        self.violations, self.wrote, self.returned, self.violated, self.violated_at = violations, [], 0, 0, None
+        self.told_violations = []
         self.always, self.sent, self.dm1_at = always, 0, 0
         # what its latest DM1 told: codes as (spn, fmi), and the lamps' byte; and when it told changes: (which, time), since the latest that was no change's
         self.codes_told, self.lamps_told, self.changes_told, self.lamps_changed = set(), 0, [], None
@@ -239,14 +243,36 @@ class LiveUnit(Lanes, Unit):
 
     # Hearing.
 
+    def is_violated(self, frame, now):
+        """Whether somebody else sends from its address: what is no claim, and none of what it wrote, of which the newest 64 are known, behind the one
+        that came back last. It is said once one came back, and while all behind that are known; and once in five seconds (J1939-81)."""
+        if not self.violations or self.held is None or frame.source != self.held:
+            return False
+        behind = len(self.wrote) - self.returned
+        for place in range(max(self.returned, len(self.wrote) - ECHOES), len(self.wrote)):
+            if (self.wrote[place].number, self.wrote[place].data) == (frame.number, frame.data):
+                self.returned = place + 1
+                return False
+        if self.returned == 0 or behind > ECHOES or frame.pgn == CLAIM or self.violated_at is not None and now < self.violated_at + VIOLATION_PERIOD:
+            return False
+        self.violated_at, self.violated = now, self.violated + 1
+        return True
+
     def listen(self, place, now):
         frame = self.wire[place][1]
+        if self.is_violated(frame, now):
+            self.told_violations.append(frame)
+            self.withdraw("claims")
+            self.put(claim(self.name, self.held))
         mine = [it for it in self.answers if it.pgn == requested(frame)] if frame.pgn == REQUEST and self.held is not None and frame.dest in (self.held, GLOBAL) else []
         if mine:
             self.answer(mine[0], frame)
             return
         if self.own and self.wants_session(frame):
             self.refuse(frame)
+            return
+        if self.own and frame.pgn == CONTROL and control_of(frame) == RTS and frame.dest == self.held and frame.source <= LAST_ADDRESS:
+            self.refuse_session(frame)
             return
         self.hear_of_own(frame, now)
         if needs_room(frame) and not self.has_room():
@@ -295,6 +321,14 @@ class LiveUnit(Lanes, Unit):
         else:
             self.unheard += 1
 
+    def refuse_session(self, frame):
+        """It has a session of its own group: reason 1, already in one."""
+        if self.has_room():
+            self.heard += 1
+            self.put(abort(control_pgn(frame), frame.source, self.held, 1))
+        else:
+            self.unheard += 1
+
     def hear_of_own(self, frame, now):
         """What the receiver of an own group says: the rules of a diagnostic session."""
         own = self.own
@@ -328,9 +362,19 @@ class LiveUnit(Lanes, Unit):
                 return
             self.own_frames, own.following = packets, max(own.following, last + 1)
             own.again = last + 1 < own.following
+        elif 1 <= first and first in [which for which, _ in self.own_frames]:
+            self.own_frames, self.own_alone_at, own.reason = [], now, 4
+
+    def hear_control(self, frame):
+        """While a session is open, another is refused with reason 1: already in one."""
+        if control_of(frame) == RTS and self.session and frame.source <= LAST_ADDRESS:
+            self.put(abort(control_pgn(frame), frame.source, self.held, 1))
+        else:
+            super().hear_control(frame)
 
     def hear_grant(self, granted, first):
-        """As there. And packets that went go again, with the rest of what is granted (J1939-21, 5.10.3): the same one twice at most, until a later one is."""
+        """As there. And packets that went go again, with the rest of what is granted (J1939-21, 5.10.3): the same one twice at most, until a later one is. Of
+        packets that wait it is too early, and ends the session."""
         session = self.session
         waiting = [frame.data[0] for piece in self.lanes["session"] for frame, _ in piece if frame.pgn == PACKET]
         if granted and 1 <= first < session.following and first not in waiting:
@@ -344,6 +388,10 @@ class LiveUnit(Lanes, Unit):
             again = range(first, min(first + granted, session.following))
             self.put(*(packet(session.payload, which, session.dest, self.held) for which in again), session=True)
             first, granted = session.following, granted - len(again)
+        elif granted and first in waiting:
+            self.end_session()
+            self.put(parting(session, self.held, 4))
+            return
         elif granted and first == session.following and waiting and waiting[-1] + 1 != first:
             self.withdraw(SESSION)  # (what was to go again is wanted no more)
         super().hear_grant(granted, first)
@@ -509,8 +557,10 @@ class Playback:
 
     def hear(self, frame, now):
         self.wire.take(frame)
-        for unit in self.units:
+        for place, unit in enumerate(self.units):
             unit.listen(len(self.wire) - 1, now)
+            self.notes += [f"unit {place} claims again: not its own {its.number:08X}#{its.data.hex().upper()}\n" for its in unit.told_violations]
+            unit.told_violations.clear()
 
     def step(self, now):
         count = len(self.units)
@@ -522,6 +572,7 @@ class Playback:
             self.notes += [f"unit {place} fails: {kind} {its.number:08X}#{its.data.hex().upper()}\n" for kind, its in unit.told]
             unit.told.clear()
             if frame:
+                unit.wrote.append(frame)
                 self.turn = (place + 1) % count
                 return frame
         return None
@@ -560,6 +611,7 @@ class Playback:
             at = "without address" if unit.held is None else f"at {unit.held}"
             unheard = f" unheard {unit.unheard}" if unit.unheard else ""
             cyclic = (f" cyclic {unit.sent}" if unit.cyclic or unit.repeated else "") + (f" answered {unit.answered}" if unit.answers else "")
+            cyclic += f" violated {unit.violated}" if unit.violated else ""
             lines.append(f"unit {place} {unit.name:016X} {at} heard {unit.heard}{unheard} written {unit.written} withdrawn {unit.withdrawn}"
                          f" waiting {unit.waiting()}{cyclic}\n")
         return "".join(lines)

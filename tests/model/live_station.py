@@ -72,8 +72,10 @@ class LiveStation(Lanes, Station):
         return False
 
     def echoes(self):
-        """Whether one has come back."""
-        return any(it.returned for it in self.log)
+        """Whether one has come back, and all that were written behind it are known."""
+        written = [it for it in self.log if it.what == "wrote"]
+        behind = max([at + 1 for at, it in enumerate(written) if it.returned], default=0)
+        return 0 < behind and len(written) - behind <= ECHOES
 
     def needs_room(self, frame):
         """Whether a frame may have the station put something beside what waits."""

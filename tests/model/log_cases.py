@@ -151,21 +151,37 @@ a change at a time of which it is not told
 a change of another unit than the one of which it is told
 missed frames of each bus
 one more of several buses
-a VIN in one frame
-a VIN by broadcast
-a VIN by session
-a VIN is not told whose address changed hands on the way
-a VIN is broken by a packet that is not the next
-a packet of a VIN comes again as it was asked for
+VI in one frame
+CI in one frame
+SOFT in one frame
+ECUID in one frame
+VI by broadcast
+VI by session
+CI by broadcast
+CI by session
+SOFT by broadcast
+SOFT by session
+ECUID by broadcast
+ECUID by session
+VI is not told whose address changed hands on the way
+CI is not told whose address changed hands on the way
+SOFT is not told whose address changed hands on the way
+ECUID is not told whose address changed hands on the way
+VI of which the front is told
+CI of which the front is told
+SOFT of which the front is told
+ECUID of which the front is told
+an identification is broken by a packet that is not the next
+a packet of an identification comes again as it was asked for
 a VIN without a star
-a VIN of which the front is kept
-a VIN without characters
-a VIN that is not shown
-a unit's first VIN
-a VIN that was told before
-another VIN than before
-a row of an address that nobody claimed and that told a VIN alone
-begun anew with a VIN
+an identification without characters
+an identification of empty fields
+an identification that is not shown
+a unit's first identification
+an identification that was told before
+another identification than before
+a row of an address that nobody claimed and that told an identification alone
+begun anew with an identification
 """
 WATCH = """
 the first bus that a line names is watched

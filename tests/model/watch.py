@@ -13,7 +13,7 @@ from .log_cases import reach
 from .memory import Part
 from .log_line import ERROR, FD, REMOTE, SHORT
 from .pacing import Pacing
-from .vins import Vins
+from .identifications import WORDS as IDENTIFIED, Identifications, told_of, words_of
 from .notices import Absence, BadLines, Clock, without_frames
 from .clocks import Clocks
 from .words import ABORTS, ANSWERS, FAILURE_MODES, NOT_AVAILABLE, address_words, dumped, group_words, lamp_words, meaning_words, name_fields, name_text, seen, seen_json, shown_object, shown_words, time_text, trouble_object, trouble_words
@@ -174,7 +174,7 @@ class Watch:
         self.taken_over = {}  # of each address the time at which a claim last took it from another NAME
         self.told_unowned = set()
         self.kept, self.pairs, self.missed_before, self.unread_before, self.partly_before = 0, set(), 0, 0, 0
-        self.vins = Vins()
+        self.identified = Identifications()
         self.text, self.objects = told or ([], [])
         for address, name in options.assumed:
             reach("an owner is assumed")
@@ -208,9 +208,9 @@ class Watch:
         self.missed_before, self.unread_before, self.partly_before = self.missed(), self.unread(), self.partly()
         self.heard, self.pacing, self.now = Listener(self.heard.gaps), Pacing(self.options.silence), None
         self.runs, self.told_unowned, self.kept, self.pairs = {}, set(), 0, set()
-        self.vins.forget()
-        if self.vins.of:
-            reach("begun anew with a VIN")
+        self.identified.forget()
+        if self.identified.of:
+            reach("begun anew with an identification")
         for name, address in owners:
             self.heard.take(claim(name, address))
 
@@ -292,7 +292,7 @@ class Watch:
         if frame.pgn == PACKET and self.is_followed(frame.dest):
             fate = self.pacing.packet(key, frame.data, time, before[frame.source, frame.dest][2] if (frame.source, frame.dest) in before else [])
         if fate != "late":
-            self.hear_vin(number, frame, key)
+            self.hear_identification(number, frame, key)
         changes = self.heard.take(frame) if fate == "read" else []
         self.counts["withheld"] += fate == "late"
         what = control_of(frame)
@@ -306,20 +306,20 @@ class Watch:
         if not any(what in ("entry", "unread") for what, *_ in changes):
             self.tell_broken(number, frame, fate, before)
 
-    def hear_vin(self, number, frame, key):
-        """A VIN is kept where an entry of the same unit, from the same address to the same one, would be shown."""
+    def hear_identification(self, number, frame, key):
+        """It is kept where an entry of the same unit, from the same address to the same one, would be shown."""
         owner = self.heard.owner(frame.source)
-        told = self.vins.take(frame, Unclaimed(frame.source, self.heard.gaps) if owner is None else owner, lambda number: self.pacing.asks_for(key, number))
+        told = self.identified.take(frame, Unclaimed(frame.source, self.heard.gaps) if owner is None else owner, lambda number: self.pacing.asks_for(key, number))
         if told is None:
             return
-        who, source, dest, payload = told
+        who, pgn, source, dest, payload = told
         shown = self.options.lists_unclaimed or not isinstance(who, Unclaimed)
         if shown and self.options.shows(dest) and self.options.is_in_time(self.now) and self.options.is_of_unit(who, source):
-            if self.vins.tell(who, payload):
-                vin = self.vins.text(who)
-                self.write(number, "vin", f"vin {self.who_words(who)}{':' if isinstance(who, Unclaimed) else ''} {vin}", **self.who_object(who), vin=vin)
+            if self.identified.tell(who, pgn, payload):
+                word, text = IDENTIFIED[pgn], self.identified.of[who, pgn]
+                self.write(number, word, f"{word} {self.who_words(who)}{':' if isinstance(who, Unclaimed) else ''} {words_of(pgn, text)}", **self.who_object(who), **{word: told_of(pgn, text)})
         else:
-            reach("a VIN that is not shown")
+            reach("an identification that is not shown")
 
     def is_followed(self, dest):
         return dest == GLOBAL or self.heard.joins_sessions_to(dest)
@@ -443,7 +443,7 @@ class Watch:
         if count:
             self.taken_over.clear()
         self.told_unowned.clear()
-        self.vins.forget()
+        self.identified.forget()
         if not self.options.is_in_time(self.now):
             return
         self.write(number, "missed", f"missed {count}: no owner is known until units claim again ({UNITS_CLAIM})", count=count)
@@ -551,9 +551,9 @@ class Watch:
         unclaimed = dict.fromkeys(who for who, _ in self.runs if isinstance(who, Unclaimed))
         for who in unclaimed:
             reach("a row of an address that nobody claimed" + (" since a gap" if who.gaps else ""))
-        alone = [who for who in self.vins.of if isinstance(who, Unclaimed) and who not in unclaimed]
+        alone = [who for who in self.identified.units() if isinstance(who, Unclaimed) and who not in unclaimed]
         for who in alone:
-            reach("a row of an address that nobody claimed and that told a VIN alone")
+            reach("a row of an address that nobody claimed and that told an identification alone")
         return [who for who in [*self.heard.names(), *unclaimed, *alone] if self.has_row(who)]
 
     def has_row(self, who):
@@ -563,7 +563,7 @@ class Watch:
         what, value = self.options.unit
         if what == "name":
             return who == value and not isinstance(who, Unclaimed)
-        return self.address_of(who) == value or who in self.vins.of or any(self.runs_of(who, kind) for kind in KINDS.values())
+        return self.address_of(who) == value or who in self.identified.units() or any(self.runs_of(who, kind) for kind in KINDS.values())
 
     def entries(self, name, kind):
         return sum(run.times for run in self.runs_of(name, kind))
@@ -591,7 +591,7 @@ class Watch:
             reach("a row of a NAME that was assumed")
         entries = " ".join(f"{self.entries(who, kind):6}" for kind in KINDS.values())
         last = f"{len(newest[0].shown[1]):4} {lamp_words(newest[0].shown[0])} ({newest[0].shown[0].hex().upper()})" + (" in part" if isinstance(newest[0].shown, Part) else "") if newest else "   - -"
-        vin = f"; VIN {self.vins.text(who)}" if who in self.vins.of else ""
+        vin = self.identified.vin(who)
         if isinstance(who, Unclaimed):
             return f"{self.who_words(who)} {entries} {last}{vin}"
         held = "none" if address is None else address_words(address, True)
@@ -599,7 +599,7 @@ class Watch:
 
     def rows_text(self):
         """Units whose red stop lamp was on at any time stand before the others."""
-        rows = [[self.text_row(who), *self.ever.text((self.name, who), self.time_told)] for who in sorted(self.rows(), key=lambda who: not self.ever.was_red((self.name, who)))]
+        rows = [[self.text_row(who), *self.identified.lines(who), *self.ever.text((self.name, who), self.time_told)] for who in sorted(self.rows(), key=lambda who: not self.ever.was_red((self.name, who)))]
         return "".join(f"{self.place()}{line}\n" for lines in rows for line in lines) + f"{self.place()}missed {self.missed()} unread {self.unread()}" + (
             f" partly {self.partly()}" if self.partly() else "") + "\n" + (
             f"{self.place()}broken {self.broken} open {self.open()}\n" if self.broken or self.open() else "")
@@ -617,8 +617,7 @@ class Watch:
         for word, kind in KINDS.items():
             row[word] = [{"times": run.times, "first": self.time(run.first), "last": self.time(run.last), **run.object(), **trouble_object(run.shown)}
                          for run in self.runs_of(who, kind)]
-        return row | self.bus_object() | ({} if isinstance(who, Unclaimed) else unit_keys(who)) | self.ever.object((self.name, who)) | (
-            {"vin": self.vins.text(who)} if who in self.vins.of else {})
+        return row | self.bus_object() | ({} if isinstance(who, Unclaimed) else unit_keys(who)) | self.ever.object((self.name, who)) | self.identified.object(who)
 
     @staticmethod
     def report_object(watches, counts, options, head={"event": "report"}):
@@ -633,12 +632,12 @@ class Watch:
 
     @staticmethod
     def header(options):
-        return HEADER + ",to" + (",bus" if options.each else "") + ",function,instance,manufacturer,identity,unit_text,code_text,name_hex" + EVER_HEADER + ",fmi_text,not_read,vin\n"
+        return HEADER + ",to" + (",bus" if options.each else "") + ",function,instance,manufacturer,identity,unit_text,code_text,name_hex" + EVER_HEADER + ",fmi_text,not_read" + "".join(f",{word}" for word in IDENTIFIED.values()) + "\n"
 
     @staticmethod
     def report_rows(watches, options):
         """A row for each code of each run; without a code one for the run, and without entries one for the NAME."""
-        return "".join(",".join([*row, *([watch.csv_bus()] if options.each else []), *unit_values(who), *ever, csv_text(watch.vins.text(who))]) + "\n"
+        return "".join(",".join([*row, *([watch.csv_bus()] if options.each else []), *unit_values(who), *ever, *map(csv_text, watch.identified.values(who))]) + "\n"
                                 for watch in watches for who in watch.rows() for row, ever in watch.rows_of(who))
 
     def csv_bus(self):

@@ -53,13 +53,13 @@ vcan2 00000000000000C0  33(21)      0      0      0    - -; function 0 instance 
 vcan2 missed 0 unread 0
 lines 15 frames 12 bad 1; not J1939: 11-bit 1, remote 0, CAN FD 0, error 0; other bus 0; not attributed 1
 """
-EACH_BUS_CSV = """name,address,kind,first_time,last_time,entries,lamps,spn,fmi,count,contested,to,bus,function,instance,manufacturer,identity,unit_text,code_text,name_hex,ever_lamp,ever_lamp_times,ever_lamp_first,ever_lamp_last,last_heard,silent,ever_code_times,ever_code_first,ever_code_last,fmi_text,not_read,vin
-00000000000000A0,,dm2,1.600000,1.600000,1,04FF,1208,3,1,false,249,can0,0,0,0,160,,,0x00000000000000A0,,,,,,,,,,voltage above normal or shorted high,,
-00000000000000A0,,dm2,1.600000,1.600000,1,04FF,100,5,1,false,249,can0,0,0,0,160,,,0x00000000000000A0,,,,,,,,,,current below normal or open circuit,,
-00000000000000B0,,dm2,1.500000,1.500000,1,00FF,110,0,1,false,249,can1,0,0,0,176,,,0x00000000000000B0,,,,,,,,,,"above normal, most severe",,
-00000000000000B0,,dm2,1.500000,1.500000,1,00FF,100,5,1,false,249,can1,0,0,0,176,,,0x00000000000000B0,,,,,,,,,,current below normal or open circuit,,
-"address 0, no claim seen since gap 1",0,dm1,1.800000,1.800000,1,04FF,1208,3,1,false,,can1,,,,,,,,amber,1,1.800000,1.800000,1.800000,,1,1.800000,1.800000,voltage above normal or shorted high,,
-00000000000000C0,33,,,,,,,,,,,vcan2,0,0,0,192,,,0x00000000000000C0,,,,,,,,,,,,
+EACH_BUS_CSV = """name,address,kind,first_time,last_time,entries,lamps,spn,fmi,count,contested,to,bus,function,instance,manufacturer,identity,unit_text,code_text,name_hex,ever_lamp,ever_lamp_times,ever_lamp_first,ever_lamp_last,last_heard,silent,ever_code_times,ever_code_first,ever_code_last,fmi_text,not_read,vin,component,software,ecu
+00000000000000A0,,dm2,1.600000,1.600000,1,04FF,1208,3,1,false,249,can0,0,0,0,160,,,0x00000000000000A0,,,,,,,,,,voltage above normal or shorted high,,,,,
+00000000000000A0,,dm2,1.600000,1.600000,1,04FF,100,5,1,false,249,can0,0,0,0,160,,,0x00000000000000A0,,,,,,,,,,current below normal or open circuit,,,,,
+00000000000000B0,,dm2,1.500000,1.500000,1,00FF,110,0,1,false,249,can1,0,0,0,176,,,0x00000000000000B0,,,,,,,,,,"above normal, most severe",,,,,
+00000000000000B0,,dm2,1.500000,1.500000,1,00FF,100,5,1,false,249,can1,0,0,0,176,,,0x00000000000000B0,,,,,,,,,,current below normal or open circuit,,,,,
+"address 0, no claim seen since gap 1",0,dm1,1.800000,1.800000,1,04FF,1208,3,1,false,,can1,,,,,,,,amber,1,1.800000,1.800000,1.800000,,1,1.800000,1.800000,voltage above normal or shorted high,,,,,
+00000000000000C0,33,,,,,,,,,,,vcan2,0,0,0,192,,,0x00000000000000C0,,,,,,,,,,,,,,,
 """
 # The same of examples/logs/07-two-buses.log: other units at one address of two buses, asked by one tool at the same time.
 TWO_UNITS_AT_0 = """1792922400.050000 can0 unit 1000000001419907 (function 0 instance 0, manufacturer 10, identity 104711) at 0

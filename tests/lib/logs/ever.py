@@ -81,8 +81,8 @@ def ever_in_csv():
     """The same as the last values of each row."""
     rows = list(csv.reader(io.StringIO(run(["watch", "--format", "csv"], flickering().encode())[1])))
     place = rows[0].index("name_hex") + 1
-    found = same(rows[0][place:], ["ever_lamp", "ever_lamp_times", "ever_lamp_first", "ever_lamp_last", "last_heard", "silent", "ever_code_times", "ever_code_first", "ever_code_last", "fmi_text", "not_read", "vin"], "names")
-    told = {(row[0][-1], row[2], row[7]): row[place:-2] for row in rows[1:]}
+    found = same(rows[0][place:], ["ever_lamp", "ever_lamp_times", "ever_lamp_first", "ever_lamp_last", "last_heard", "silent", "ever_code_times", "ever_code_first", "ever_code_last", "fmi_text", "not_read", "vin", "component", "software", "ecu"], "names")
+    told = {(row[0][-1], row[2], row[7]): row[place:-5] for row in rows[1:]}
     lamp = ["stop", "60", "10.000000", "1789.000000", "1800.000000", ""]
     amber = ["amber", "1", "1.000000", "600.000000", "600.000000", "1200"]
     wanted = {("7", "dm1", ""): [*lamp, "", "", "", ""], ("7", "dm1", "100"): [*lamp, "60", "10.000000", "1789.000000", HIGH], ("5", "dm1", ""): [""] * 4 + ["1800.000000"] + [""] * 5,

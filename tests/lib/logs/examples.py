@@ -77,7 +77,7 @@ def log_in_json(name):
 def log_in_csv(name):
     status, out, err = run(["watch", "--silence", "0", "--address", "248", "--format", "csv", "--unclaimed", "hide"], log_of(name))
     header = "name,address,kind,first_time,last_time,entries,lamps,spn,fmi,count,contested,to,function,instance,manufacturer,identity,unit_text,code_text,name_hex"
-    header += ",ever_lamp,ever_lamp_times,ever_lamp_first,ever_lamp_last,last_heard,silent,ever_code_times,ever_code_first,ever_code_last,fmi_text,not_read,vin"
+    header += ",ever_lamp,ever_lamp_times,ever_lamp_first,ever_lamp_last,last_heard,silent,ever_code_times,ever_code_first,ever_code_last,fmi_text,not_read,vin,component,software,ecu"
     found = same(status, 0, "status") + same(out.splitlines()[0], header, "header") + same(units_of_csv(out), units_wanted(name), "units")
     rows = list(csv.DictReader(io.StringIO(out)))
     told = [(row["name"], row["kind"], row["first_time"], row["last_time"]) for row in rows if row["contested"] == "true"]

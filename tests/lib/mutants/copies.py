@@ -107,12 +107,27 @@ def below(program):
     return found
 
 
+# The layers of crates.txt that are the tool's and not the core's; of the core a unit and a station on a real bus, whose times tests alone see.
+TOOL_LAYERS = ("log", "words", "commands", "program")
+ON_A_REAL_BUS = ("live_unit", "live_station")
+
+
+def layers():
+    """The crates by the layers of crates.txt, in its order."""
+    found, names = {}, []
+    for line in (TOP / "crates.txt").read_text(encoding="utf-8").splitlines():
+        head = re.fullmatch(r"# (\w+)", line)
+        if head:
+            names = found.setdefault(head[1], [])
+        elif ":" in line and not line.startswith("#"):
+            names.append(line.partition(":")[0].split()[0])
+    return found
+
+
 def tool_side():
-    """The crates of the last layer of crates.txt that a program stands on."""
-    text = (TOP / "crates.txt").read_text(encoding="utf-8")
-    last = text.rsplit("\n# ", 1)[-1]
-    names = [line.split("#")[0].partition(":")[0].split()[0] for line in last.splitlines() if ":" in line.split("#")[0]]
+    """The crates that are tried where none is named: those of the tool's layers, and of a real bus, that a program stands on."""
     standing = set().union(*(below(it) for it in programs()))
+    names = [*ON_A_REAL_BUS, *(name for layer in TOOL_LAYERS for name in layers()[layer])]
     return [it for it in names if it in standing]
 
 

@@ -4,6 +4,7 @@ import os
 import re
 import signal
 import subprocess
+import sys
 import time
 
 from harness import TOP
@@ -13,10 +14,13 @@ from . import copies
 KEPT = TOP / "out/mutants/known.json"
 # A part that takes longer, in seconds of a run on the unchanged program, is left out.
 LONGEST = 300
-# Once more than this and some seconds, a part is ended: it is seen that something does not end.
-TIMES = 3
-# So many wrong bodies are switched on together first.
-TOGETHER = 4
+# A process that takes so many times the processor's time of a whole run, and some seconds, is ended: it is seen that something does not end. A part that
+# waits has so many times that, since a machine may have much to do.
+TIMES, PATIENCE = 3, 4
+# So many wrong bodies are switched on together at first, and at most: more as long as a part sees few.
+TOGETHER, MOST_TOGETHER = 4, 16
+# Parts that look at a clock, or at what another process does meanwhile: on a busy machine they may fail for that, so a failure has to come twice.
+BY_A_CLOCK = ("run/live", "run/tester", "run/signals", "run/serve", "run/threads", "run/harness", "run/install", "run/python", "run/c")
 # Parts over random inputs with fewer of them: most wrong bodies are seen by the first.
 FEWER = {"run/random_scripts": ["--seed", "1", "--runs", "120"], "run/random_logs": ["--seed", "1", "--runs", "24"], "run/random_live": ["--lines", "800", "--most", "60"],
          "run/random_tester": ["--lines", "800", "--most", "60"],
@@ -31,6 +35,9 @@ WITHOUT_PROGRAM = ("harness", "contracts", "one_home", "reading_list", "names_in
 # The parts that try a script, where that is not plain by its name in them.
 TRYING = {"run_program": ("run/signals", "run/install"), "install_program": ("run/install", "run/c"), "program_for": ("run/signals", "run/install"), "j1939bench": ("run/signals",),
           "pages/answer": ("run/pages_of_help",)}
+
+# What tries the package for Python by itself in some seconds: before run/python, which makes the wheel first.
+PYTHON_ALONE = [[f"in_python/{it}.py"] for it in ("lists", "units", "live", "logs", "refusals", "threads", "bench", "listener", "live_unit", "tester")]
 
 
 def every_part():
@@ -47,16 +54,27 @@ def parts():
     return [*sorted(chosen, key=lambda it: SLOW.index(it[0]) if it[0] in SLOW else -1), LAST]
 
 
+def called(folder, words):
+    """The words that call a part, or a program over the package for Python as it stands in a copy; and what it needs of the environment."""
+    if not words[0].endswith(".py"):
+        return [f"tests/{words[0]}", *words[1:]], {}
+    return [sys.executable, f"tests/{words[0]}"], {"PYTHONPATH": f"{folder}/python:{folder}/tests/in_python/fake", "PYTHONDONTWRITEBYTECODE": "1",
+                                                   "HIDZGULA_LIBRARY": f"{folder}/c/out/libhidzgula_station.so"}
+
+
 def ran(folder, words, limit):
-    """Runs a part in a copy: whether it passed, the seconds, and the last of what it said. It ends at the first try that fails."""
+    """Runs a part in a copy, each of its processes for at most so many seconds of a processor: whether it passed, the seconds, and the last of what it said.
+    It ends at the first try that fails."""
     begun = time.monotonic()
-    part = subprocess.Popen([f"tests/{words[0]}", *words[1:]], cwd=folder, stdin=subprocess.DEVNULL, stdout=subprocess.PIPE, stderr=subprocess.STDOUT,
-                            errors="replace", start_new_session=True, env=os.environ | {"WITHOUT_PROOF": "1"})
+    limit = int(limit)
+    words, given = called(folder, words)
+    part = subprocess.Popen(["/bin/sh", "-c", f'ulimit -t {limit} && exec "$@"', "sh", *words], cwd=folder, stdin=subprocess.DEVNULL, stdout=subprocess.PIPE,
+                            stderr=subprocess.STDOUT, errors="replace", start_new_session=True, env=os.environ | {"WITHOUT_PROOF": "1"} | given)
     try:
-        said, _ = part.communicate(timeout=limit)
+        said, _ = part.communicate(timeout=PATIENCE * limit)
         passed = part.returncode == 0
     except subprocess.TimeoutExpired:
-        said, passed = f"not ended after {limit:.0f} s\n", False
+        said, passed = f"not ended after {PATIENCE * limit} s\n", False
     finally:
         try:
             os.killpg(part.pid, signal.SIGKILL)
@@ -64,6 +82,15 @@ def ran(folder, words, limit):
             pass
         part.wait()
     return passed, time.monotonic() - begun, said[-400:]
+
+
+def fails(folder, words, limit):
+    """What a part said that failed in a copy, twice where it looks at a clock; None where it passed."""
+    for _ in range(2 if words[0] in BY_A_CLOCK else 1):
+        passed, _, said = ran(folder, words, limit)
+        if passed:
+            return None
+    return said
 
 
 class Known:
@@ -115,15 +142,22 @@ class Programs:
                 self.reached |= reached
                 chosen = [it for it in left if it in reached]
                 self.tell(f"{' '.join(words)}: {seconds:.0f} s, comes by {len(chosen)} of {len(left)} unseen")
-                for at in range(0, len(chosen), TOGETHER):
-                    self.split(words, seconds, chosen[at : at + TOGETHER], note)
+                self.try_all(words, seconds, chosen, note)
+
+    def try_all(self, words, seconds, chosen, note):
+        """Tries these with a part: many at once as long as it sees few of them."""
+        at, before = 0, len(self.seen)
+        while at < len(chosen):
+            together = max(1, min(MOST_TOGETHER, (at + TOGETHER) // (len(self.seen) - before + 1)))
+            self.split(words, seconds, chosen[at : at + together], note)
+            at += together
 
     def split(self, words, seconds, numbers, note):
         """Which of some wrong bodies a part sees: none where it passes with all of them on; else those that one half or the other has. (That two of them
         hide each other is as good as never so.)"""
         self.put(numbers)
-        passed, _, said = ran(self.folder, words, TIMES * seconds + 20)
-        if passed:
+        said = fails(self.folder, words, TIMES * seconds + 20)
+        if said is None:
             return
         if len(numbers) == 1:
             self.seen[numbers[0]] = " ".join(words)
@@ -135,11 +169,15 @@ class Programs:
 
 
 def parts_about(path):
-    """The parts that name a script, or the folder that a source lies in; of the package and the library for C those of their folders."""
+    """The parts that name a script, or the folder that a source lies in; of the package and the library for C those of their folders; of a constant its own."""
+    if path.startswith("crates/"):
+        return [["run/constants"]]
+    if path.startswith("python/"):
+        return [["run/python"], *([["run/fleet"], ["run/serve"]] if path.endswith(("program.py", "candump.py", "table.py")) else [])]
     if path in TRYING:
         return [it for it in every_part() if it[0] in TRYING[path]]
     name = path.rpartition("/")[2]
-    words = {"python": ("in_python",), "c": ("c/build", "hidzgula_station.h")}.get(path.split("/")[0] if "/" in path else "", ()) or (name,)
+    words = ("c/build", "hidzgula_station.h") if path.startswith("c/") else (name,)
     if path.startswith("release/"):
         words = ("release/build", "release/about", "release/version")
     found = []
@@ -168,12 +206,14 @@ class Scripts:
     def seen_by(self, body):
         """The first part that sees it; an empty text where nothing was tried; None where none sees it."""
         parts = sorted((self.times(it), it) for it in parts_about(body.path) if self.times(it) is not None)
+        if body.path.startswith("python/hidzgula/"):
+            parts = [(self.times(it), it) for it in PYTHON_ALONE if self.times(it) is not None] + parts
         file = self.folder / body.path
         before = file.read_text(encoding="utf-8")
         file.write_text(body.apply(before), encoding="utf-8")
         try:
             for seconds, part in parts:
-                if not ran(self.folder, part, TIMES * seconds + 20)[0]:
+                if fails(self.folder, part, TIMES * seconds + 20) is not None:
                     return " ".join(part)
         finally:
             file.write_text(before, encoding="utf-8")

@@ -1,8 +1,12 @@
-"""Which unit has which VIN: in the rows of a report, in each form."""
+"""What units tell of themselves, VIN, component, software and ECU identification: in the rows of a report, in each form."""
 
 import csv
 import io
 import json
+import random
+
+from model.identifications import VIN as VIN_GROUP
+from model.identifications import WORDS, text_of as text_in, told_of, words_of
 
 from .common import run, same
 
@@ -42,7 +46,8 @@ TOLD = [
     ("no characters change nothing", [CLAIM, "18FEEC00#56494E2A", "18FEEC00#2AFFFFFFFFFFFFFF"], [("A0", "VIN")]),
     ("the newest", [CLAIM, "18FEEC00#41412A", "18FEEC00#42422A"], [("A0", "BB")]),
     ("another data page", [CLAIM, "19FEEC00#41412A"], [("A0", None)]),
-    ("40 bytes of more", [CLAIM, "1CECFF00#203D0009FFECFE00", *packets(b"0123456789" * 6 + b"*")], [("A0", ("0123456789" * 6)[:40])]),
+    ("200 bytes", [CLAIM, "1CECFF00#20C9001DFFECFE00", *packets(b"0123456789" * 20 + b"*")], [("A0", "0123456789" * 20)]),
+    ("200 bytes of more", [CLAIM, "1CECFF00#20CA001DFFECFE00", *packets(b"0123456789" * 20 + b"0*")], [("A0", "0123456789" * 20 + "...")]),
     ("bytes that a terminal obeys", [CLAIM, "18FEEC00#1B5B33316DE9002A"], [("A0", "\\x1B[31m\\xE9\\x00")]),
     ("markup", [CLAIM, "18FEEC00#3C623E2622" + "2A"], [("A0", '<b>&"')]),
     ("a formula", [CLAIM, "18FEEC00#3D312B31" + "2C5C2A"], [("A0", "=1+1,\\")]),
@@ -57,6 +62,94 @@ def name_of(name):
     return None if name is None else name.rjust(16, "0")
 
 
+COMPONENT = b"DETDL*6R1011*0692*U1*"
+SOFTWARE = b"\x02A1.7*B-0x3F*"
+ECU = b"7421-9*SN0007**DDEC*Detroit*"
+ALL_FOUR = {65260: VIN.encode() + b"*", 65259: COMPONENT, 65242: SOFTWARE, 64965: ECU}
+BELOW = ["  component: make DETDL, model 6R1011, serial number 0692, unit number U1", "  software: A1.7, B-0x3F",
+         "  ecu: part number 7421-9, serial number SN0007, type DDEC, manufacturer Detroit"]
+LISTS = {"vin": VIN, "component": ["DETDL", "6R1011", "0692", "U1"], "software": ["A1.7", "B-0x3F"], "ecu": ["7421-9", "SN0007", "", "DDEC", "Detroit"]}
+COLUMNS = [VIN, "DETDL*6R1011*0692*U1", "A1.7*B-0x3F", "7421-9*SN0007**DDEC*Detroit"]
+
+
+def announced(pgn, size, dest="FF"):
+    return f"1CEC{dest}00#{'20' if dest == 'FF' else '10'}" + size.to_bytes(2, "little").hex().upper() + f"{-(-size // 7):02X}FF" + pgn.to_bytes(3, "little").hex().upper()
+
+
+def sent(pgn, text, dest="FF"):
+    """In packets, to all or in a session."""
+    allowed = [] if dest == "FF" else [f"1CEC00{dest}#11{-(-len(text) // 7):02X}01FFFF" + pgn.to_bytes(3, "little").hex().upper()]
+    return [announced(pgn, len(text), dest), *allowed, *packets(text, dest)]
+
+
+def rows_in(log, *words):
+    return json.loads(run(["watch", *words, "--format", "json"], log.encode())[1].splitlines()[-1])["rows"]
+
+
+def all_four():
+    """A unit that says all four, by broadcast and by session: in its row and below it, as keys and in columns; and what is told of each once."""
+    found = []
+    for dest in ("FF", "F9"):
+        log = text_of([CLAIM, *(frame for pgn, text in ALL_FOUR.items() for frame in sent(pgn, text, dest)), *sent(65259, COMPONENT, dest)])
+        told = run(["watch"], log.encode())[1].splitlines()
+        events = [line.split(" ", 1)[1] for line in told if any(f" {word} {name_of('A0')} " in line for word in WORDS.values())]
+        wanted = [f"vin {name_of('A0')} {VIN}"] + [f"{line.split(':')[0].strip()} {name_of('A0')} {line.split(': ')[1]}" for line in BELOW]
+        found += same(events, wanted, f"to {dest}: changes")
+        row = next(at for at, line in enumerate(told) if line.endswith(f"; VIN {VIN}"))
+        found += same(told[row + 1 : row + 4], BELOW, f"to {dest}: below the row")
+        found += same([{key: row.get(key) for key in LISTS} for row in rows_in(log)], [LISTS], f"to {dest}: JSON")
+        values = next(csv.DictReader(io.StringIO(run(["watch", "--format", "csv"], log.encode())[1])))
+        found += same([values[key] for key in LISTS], COLUMNS, f"to {dest}: CSV")
+        page = run(["watch", "--format", "html"], log.encode())[1]
+        found += same([page.count(f">{line.strip().replace('ecu', 'ECU')}</div>") for line in BELOW], [1, 1, 1], f"to {dest}: page")
+    return found
+
+
+def identifications_of_two_units():
+    """Two units change addresses between two packets: none of both has what was half said; whole ones stay apart, of each unit and each group."""
+    swap = ["18EEFF00#9000000000000000", "18EEFF01#A000000000000000"]
+    mine, other = sent(65259, COMPONENT), [frame.replace("FF00#", "FF01#", 1) for frame in sent(64965, ECU)]
+    claims = [CLAIM, "18EEFF01#9000000000000000"]
+    found = []
+    for what, frames, wanted in [
+        ("in mid-message", [*claims, *mine[:2], *other[:3], *swap, *mine[2:], *other[3:]], [("A0", {}), ("90", {})]),
+        ("behind them", [*claims, *mine, *other, *swap], [("A0", {"component": LISTS["component"]}), ("90", {"ecu": LISTS["ecu"]})]),
+        ("one, behind the other", [*claims, *mine, *other[:3], *swap, *other[3:]], [("A0", {"component": LISTS["component"]}), ("90", {})]),
+        ("another group is announced in its place", [*claims, *mine[:2], *sent(65242, SOFTWARE), *mine[2:]], [("A0", {"software": LISTS["software"]}), ("90", {})]),
+        ("a VIN and a component by turns", [*claims, sent(65260, ALL_FOUR[65260], "F9")[0], sent(65259, COMPONENT)[0], *packets(ALL_FOUR[65260], "F9")[:2], *packets(COMPONENT)[:2], packets(ALL_FOUR[65260], "F9")[2], packets(COMPONENT)[2]],
+         [("A0", {"vin": VIN, "component": LISTS["component"]}), ("90", {})]),
+        ("a quote, a backslash and what a terminal obeys", [*claims, *sent(65259, b'a"\\\x1b*\xe9<b>*=1')], [("A0", {"component": ['a"\\\\x1B', "\\xE9<b>", "=1"]}), ("90", {})]),
+        ("no characters tell none", [*claims, "18FEEB00#2AFFFFFFFFFFFFFF", "18FEDA00#02FFFFFFFFFFFFFF", "1DFDC500#FF"], [("A0", {}), ("90", {})]),
+        ("empty fields", [*claims, "18FEEB00#2A2A2AFFFFFFFFFF"], [("A0", {"component": ["", "", ""]}), ("90", {})]),
+        ("of more than 200 bytes the front", [*claims, *sent(64965, b"P" * 199 + b"*S" + b"T" * 9)], [("A0", {"ecu": ["P" * 199, "..."]}), ("90", {})]),
+    ]:
+        found += same([(row["name"], {key: row[key] for key in LISTS if key in row}) for row in rows_in(text_of(frames))], [(name_of(name), of) for name, of in wanted], what)
+    unclaimed = text_of([*sent(65259, COMPONENT), *sent(65242, SOFTWARE)])
+    found += same([(row["name"], row["address"], row["component"], row["software"]) for row in rows_in(unclaimed)], [(None, 0, LISTS["component"], LISTS["software"])], "one row of an address that nobody claimed")
+    found += same([line for line in run(["watch"], unclaimed.encode())[1].splitlines() if line.startswith("  ")], BELOW[:2], "and below it")
+    return found
+
+
+def hostile_payloads(count=20_000):
+    """Payloads of any bytes, in one frame and in packets: each text is told as the rules have it, where it differs from the one before."""
+    chance, frames, wanted, last = random.Random(75), [CLAIM], [], {}
+    for _ in range(count):
+        pgn = chance.choice(list(WORDS))
+        size = chance.choice([9, 15, 60, 210, 1785]) if chance.random() < 0.02 else chance.randint(0, 8)
+        payload = bytes(chance.choice([42, 255, 34, 92, 44, chance.getrandbits(8), chance.getrandbits(8), chance.getrandbits(8)]) for _ in range(size))
+        frames += sent(pgn, payload) if size > 8 else [f"18{pgn:04X}00#{payload.hex().upper()}"]
+        text = text_in(pgn, payload)
+        if text and last.get(pgn) != text:
+            last[pgn] = text
+            wanted.append((pgn, text))
+    log = "".join(f"(1.000000) can0 {frame}\n" for frame in frames).encode()
+    words = [f"1.000000 {WORDS[pgn]} {name_of('A0')} {words_of(pgn, text)}" for pgn, text in wanted]
+    found = same([line for line in run(["watch"], log)[1].splitlines()[1 : len(wanted) + 1]], words, "text")
+    events = [json.loads(line) for line in run(["watch", "--format", "json"], log)[1].splitlines()[1:-1]]
+    found += same([(event["event"], event[event["event"]]) for event in events], [(WORDS[pgn], told_of(pgn, text)) for pgn, text in wanted], "JSON")
+    return found + same(VIN_GROUP in last, True, "VINs among them")
+
+
 def vins_in_rows():
     """Each in text, JSON and CSV, under whoever held the address from its first frame to its last."""
     found = []
@@ -69,7 +162,7 @@ def vins_in_rows():
         values = list(csv.DictReader(io.StringIO(run(["watch", "--format", "csv"], log)[1])))
         guarded = [(name, ("'" if vin and vin[0] in "=+-@" else "") + (vin or "")) for name, vin in rows]
         found += same([(row["name"] if row["name"][0] == "0" else None, row["vin"]) for row in values], guarded, f"{what}: CSV")
-        found += same(list(values[0])[-1], "vin", f"{what}: the last column")
+        found += same(list(values[0])[-4:], ["vin", "component", "software", "ecu"], f"{what}: the last columns")
     return found
 
 

@@ -182,6 +182,9 @@ def identification(vin=None, component=None, software=None, ecu=None):
 class LiveUnit(Lanes, Unit):
     """A unit with its lanes and its times. All frames of the bus are heard, its own too."""
 
+    # whether a frame for others needs no room, as in `live`, while none of its own groups goes in a session
+    passes_over = True
+
     def __init__(self, name, address, kind, wire, gap, settle, always, cyclic=(), answers=(), repeated=(), faults=(), violations=False):
         self.stand(gap, settle)
         # whether it answers violations of its address; what it wrote, and so many of these before the one behind that which came back last
@@ -275,7 +278,7 @@ class LiveUnit(Lanes, Unit):
             self.refuse_session(frame)
             return
         self.hear_of_own(frame, now)
-        if needs_room(frame) and not self.has_room():
+        if needs_room(frame) and not self.has_room() and (self.own or not self.passes_over or frame.dest in (self.held, GLOBAL)):
             self.unheard += 1
             return
         self.heard += 1

@@ -34,5 +34,7 @@ ul.key{list-style:none;margin:8px 0;padding:0;font-size:.8em;color:var(--quiet)}
 td{border:0;padding:2px 0}td:empty{display:none}td.num{text-align:left}td.num[data-l^=DM]{display:inline-block;margin-right:14px}td[data-l]::before{content:attr(data-l) ': ';color:var(--quiet);font-size:.85em}}\n\
 @media (min-width:800px) and (max-width:1179px){text.middle{display:inline}text.narrow{display:none}}@media (min-width:1180px){text.wide{display:inline}text.narrow{display:none}}\n\
 @media (min-width:641px){td[data-l^=Faults],td[data-l^=Ever]{width:28%}}@page{size:A4;margin:12mm}\n\
-@media print{:root{color-scheme:light}body{font-size:10pt}td,th{padding:3px 5px}td[data-l^=Ever]{width:36%}td[data-l^=Faults]{width:20%}.curve{min-width:38mm}table.values td{padding:2px 5px}*{print-color-adjust:exact;-webkit-print-color-adjust:exact}details{display:none}tr,h3{break-inside:avoid}h2,h3{break-after:avoid}}\n"
+@media print{:root{color-scheme:light}body{font-size:10pt}td,th{padding:3px 5px}td[data-l^=Ever]{width:36%}td[data-l^=Faults]{width:20%}.curve{min-width:28mm}\
+table.values td{padding:2px 5px}table.values td:first-child{min-width:35mm}table.values td:nth-child(2){min-width:26mm}table.values .num{white-space:normal}\
+*{print-color-adjust:exact;-webkit-print-color-adjust:exact}details{display:none}tr,h3{break-inside:avoid}h2,h3{break-after:avoid}}\n"
 }

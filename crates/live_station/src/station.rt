@@ -252,7 +252,14 @@ impl LiveStation {
         let after = self.station.held();
         take_in(&mut self.queue, reaction, after);
         self.clock.hear(false, before, after, now, self.name);
-        let verdict = look_on(&mut self.order, &self.station, group, &change, contested, now);
+        let verdict = look_on(
+            &mut self.order,
+            &self.station,
+            group,
+            &change,
+            contested,
+            now,
+        );
         Ok(Told {
             change,
             verdict,

@@ -24,6 +24,8 @@ pub struct Fleet {
     turn: usize,
     /// Whether a unit was refused memory for what it heard or did.
     is_short: bool,
+    /// Before this time no unit has anything to do, where none hears more than a frame that it passes over.
+    idle_until: u64,
 }
 
 impl Fleet {
@@ -33,6 +35,7 @@ impl Fleet {
             members: Vec::new(alloc),
             turn: 0,
             is_short: false,
+            idle_until: 0,
         }
     }
 
@@ -51,6 +54,7 @@ impl Fleet {
     {
         let member = Member::new(alloc, unit, address, settings, groups)?;
         self.members.push(member)?;
+        self.idle_until = 0;
         Ok(())
     }
 
@@ -60,14 +64,20 @@ impl Fleet {
         requires { Unit {0} }
     {
         let mut refused = false;
+        let mut woken = false;
         let acceptance = Acceptance::of(frame);
         for (place, member) in self.members.iter_mut().enumerate() {
             if member.defend(frame, now) {
+                woken = true;
                 let _ = write_violation(notes, place, frame);
             }
-            if member.hear(alloc, frame, &acceptance, now) {
-                refused = true;
+            if !member.pass_over(&acceptance) {
+                woken = true;
+                refused = member.hear(alloc, frame, now) || refused;
             }
+        }
+        if woken {
+            self.idle_until = 0;
         }
         self.note_short(refused);
     }
@@ -77,6 +87,9 @@ impl Fleet {
     pub fn step<N: Write>(&mut self, alloc: Global, now: u64, notes: &mut N) -> Option<Frame>
         requires { Unit {0} }
     {
+        if now < self.idle_until {
+            return None;
+        }
         let mut refused = false;
         let mut found = None;
         let count = self.members.len();
@@ -94,6 +107,10 @@ impl Fleet {
             }
         }
         self.note_short(refused);
+        self.idle_until = match found {
+            None => self.soonest(now),
+            Some(_) => 0,
+        };
         found
     }
 
@@ -106,6 +123,14 @@ impl Fleet {
 
     /// When to look again, at this time or later.
     pub fn next(&self, now: u64) -> u64 {
+        if now < self.idle_until {
+            return self.idle_until;
+        }
+        self.soonest(now)
+    }
+
+    /// When the first unit has something to do.
+    fn soonest(&self, now: u64) -> u64 {
         let mut next = u64::MAX;
         for member in self.members.iter() {
             next = next.min(member.next(now));
@@ -123,10 +148,11 @@ impl Fleet {
         self.members.is_empty()
     }
 
-    /// The unit at a place, from 0 on, that is on the bus.
+    /// The unit at a place, from 0 on, that is on the bus, for an order to it.
     fn unit_at(&mut self, place: u32) -> Option<&mut Member>
         requires { Unit {0} }
     {
+        self.idle_until = 0;
         match self.members.get_mut(place as usize) {
             Some(member) if member.is_here() => Some(member),
             _ => None,

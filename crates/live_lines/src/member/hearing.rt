@@ -20,22 +20,25 @@ use transport::Control;
 use unit_trait::Unit;
 
 impl Member {
-    /// Has it hear a frame, where it is on the bus. Tells whether memory was refused for it.
-    pub(crate) fn hear(
-        &mut self,
-        alloc: Global,
-        frame: &Frame,
-        acceptance: &Acceptance,
-        now: u64,
-    ) -> bool
+    /// Passes over a frame of this acceptance, where it asks nothing of the unit, and no session of another group is open, or the unit is
+    /// not on the bus; answers whether it did.
+    pub(crate) fn pass_over(&mut self, acceptance: &Acceptance) -> bool
         requires { Unit {0} }
     {
         if self.has_left {
+            return true;
+        }
+        if self.answers.has_session() || !self.unit.pass_over(acceptance) {
             return false;
         }
-        if self.passes_over(acceptance) {
-            return self.count(Ok(()));
-        }
+        self.count(Ok(()));
+        true
+    }
+
+    /// Has it hear a frame that it did not pass over. Tells whether memory was refused for it.
+    pub(crate) fn hear(&mut self, alloc: Global, frame: &Frame, now: u64) -> bool
+        requires { Unit {0} }
+    {
         let held = self.unit.held();
         if let Some(request) = self.withheld(frame) {
             return self.answer(request);
@@ -58,14 +61,6 @@ impl Member {
             Ok(_) => self.count(Ok(())),
             Err(error) => self.count(Err(error)),
         }
-    }
-
-    /// Passes over a frame of this acceptance, where it asks nothing of the unit, and no session of another group is open; answers
-    /// whether it did.
-    fn passes_over(&mut self, acceptance: &Acceptance) -> bool
-        requires { Unit {0} }
-    {
-        !self.answers.has_session() && self.unit.pass_over(acceptance)
     }
 
     /// Watches a frame, where it is on the bus: where somebody else sends from its address and it answers that, its claim is put

@@ -19,7 +19,6 @@ TEXTS = 1024  # and of so many texts
 
 def text_of(pgn, payload):
     """Of a VIN what stands before the first `*`, or before the first byte that is not used; of the others what `decode` tells."""
-    what = IDENTIFICATIONS[pgn]
     if pgn == VIN:
         ends = [at for at, byte in enumerate(payload) if byte in b"*\xff"]
         text = payload[: ends[0]] if ends else payload
@@ -27,8 +26,6 @@ def text_of(pgn, payload):
             reach("a VIN without a star")
     else:
         text = identification(pgn, payload)
-    if len(text) > MOST_SHOWN:
-        reach(f"{what} of which the front is told")
     return text[:ROOM]
 
 

@@ -167,10 +167,6 @@ VI is not told whose address changed hands on the way
 CI is not told whose address changed hands on the way
 SOFT is not told whose address changed hands on the way
 ECUID is not told whose address changed hands on the way
-VI of which the front is told
-CI of which the front is told
-SOFT of which the front is told
-ECUID of which the front is told
 an identification is broken by a packet that is not the next
 a packet of an identification comes again as it was asked for
 a VIN without a star

@@ -11,7 +11,7 @@ use Rattle.script_line.specs.Line.{IsSilent}
 use Rattle.script_line.specs.declared.command.ScriptLine.{ScriptLine}
 use Rattle.script_run.specs.Lines.{AnswersLine, AnswersAll, Answered, BenchDoes, LineDoes, LineTold, Silent, StandDoes, told_text, unit_joined_by}
 use Rattle.script_run.specs.Moves.{MovesByJoining}
-use Rattle.script_run.specs.Sinks.{Closes, IsTold, TakesAll, TakesLine, TakesScript, Taking}
+use Rattle.script_run.specs.Sinks.{Closes, IsToldSo, TakesAll, TakesOneLine, TakesScript, Taking}
 
 pub takes_none : {S : Type 0} (by : Taking S) (s : Option GarageValue) (x : S) → TakesAll by [] s s x x
 unfolding TakesAll
@@ -19,10 +19,10 @@ takes_none by s x = (refl, refl)
 
 -- one line more
 pub takes_more : {S : Type 0} (by : Taking S) (ls : List (List ℕ)) (l : List ℕ) (s t u : Option GarageValue) (told : LineTold) (x y z : S)
-    → TakesAll by ls s t x y → TakesLine by l t told u y z → TakesAll by (ls ++ l ∷ []) s u x z
+    → TakesAll by ls s t x y → TakesOneLine by l t told u y z → TakesAll by (ls ++ l ∷ []) s u x z
 unfolding TakesAll
 takes_more by [] l s t u told x y z h one =
-    (told, u, z, subst (λ a. TakesLine by l s told u a z) h.1 (subst (λ a. TakesLine by l a told u y z) h.0 one), (refl, refl))
+    (told, u, z, subst (λ a. TakesOneLine by l s told u a z) h.1 (subst (λ a. TakesOneLine by l a told u y z) h.0 one), (refl, refl))
 takes_more by (k ∷ ls) l s t u told x y z h one = (h.0, h.1, h.2, h.3, takes_more by ls l h.1 t u told h.2 y z h.4 one)
 
 -- a query
@@ -49,7 +49,7 @@ silent_line by lines line s x y z silent begun h = takes_more by lines line None
 -- an answered one
 pub line_more : {S : Type 0} (by : Taking S) (lines : List (List ℕ)) (line : List ℕ) (read : Option ScriptLine) (s t : Option GarageValue) (had : Bool) (x y b e z : S)
     → ¬ IsSilent line → read ≡ line_spelled line → had ≡ is_some s → by.begins y b → by.ends line had e z
-    → TakesAll by lines None s x y → IsTold by.takes (λ told. StandDoes read s told t) b e → TakesAll by (lines ++ line ∷ []) None t x z
+    → TakesAll by lines None s x y → IsToldSo by.takes (λ told. StandDoes read s told t) b e → TakesAll by (lines ++ line ∷ []) None t x z
 line_more by lines line read s t had x y b e z spoken is there begun ended h w =
     takes_more by lines line None s t w.0 x y z h
     (inr (spoken, subst (λ r. StandDoes r s w.0 t) is w.1, (b, e, begun, w.2, subst (λ i. by.ends line i e z) there ended)))
@@ -69,21 +69,21 @@ join_line read name address r g g' some h =
 
 -- what one way to answer a line came to, where all ways meet
 pub came_to : {S B X Y : Type 0} (takes : S → LineTold → S → Type 0) (garage : B → GarageValue) (read : Option ScriptLine) (x x' y y' : Option B) (begun after m : S) (a b : Result X Y)
-    → m ≡ after → y ≡ y' → a ≡ b → x ≡ x' → OnOk b (IsTold takes (λ told. StandDoes read (option_map garage x') told (option_map garage y')) begun after)
-    → OnOk a (IsTold takes (λ told. StandDoes read (option_map garage x) told (option_map garage y)) begun m)
+    → m ≡ after → y ≡ y' → a ≡ b → x ≡ x' → OnOk b (IsToldSo takes (λ told. StandDoes read (option_map garage x') told (option_map garage y')) begun after)
+    → OnOk a (IsToldSo takes (λ told. StandDoes read (option_map garage x) told (option_map garage y)) begun m)
 came_to takes garage read x x' y y' begun after m a b em ey ea ex h =
-    subst (λ k. OnOk a (IsTold takes (λ told. StandDoes read (option_map garage x) told (option_map garage y)) begun k)) (sym em)
-    (subst (λ r. OnOk r (IsTold takes (λ told. StandDoes read (option_map garage x) told (option_map garage y)) begun after)) (sym ea)
-    (subst (λ o. OnOk b (IsTold takes (λ told. StandDoes read (option_map garage o) told (option_map garage y)) begun after)) (sym ex)
-    (subst (λ o. OnOk b (IsTold takes (λ told. StandDoes read (option_map garage x') told (option_map garage o)) begun after)) (sym ey) h)))
+    subst (λ k. OnOk a (IsToldSo takes (λ told. StandDoes read (option_map garage x) told (option_map garage y)) begun k)) (sym em)
+    (subst (λ r. OnOk r (IsToldSo takes (λ told. StandDoes read (option_map garage x) told (option_map garage y)) begun after)) (sym ea)
+    (subst (λ o. OnOk b (IsToldSo takes (λ told. StandDoes read (option_map garage o) told (option_map garage y)) begun after)) (sym ex)
+    (subst (λ o. OnOk b (IsToldSo takes (λ told. StandDoes read (option_map garage x') told (option_map garage o)) begun after)) (sym ey) h)))
 
 pub wrote_line : {S X Y : Type 0} (takes : S → LineTold → S → Type 0) (r : Result X Y) (old new : S) (read : Option ScriptLine) (name address : ℕ) (a : Result LineAnswer Refusal) (g g' : GarageValue) → unit_joined_by read ≡ Some (name, address)
-    → MovesByJoining name address a g g' → OnOk r (takes old (Answered a) new) → OnOk r (IsTold takes (λ t. LineDoes read g t g') old new)
+    → MovesByJoining name address a g g' → OnOk r (takes old (Answered a) new) → OnOk r (IsToldSo takes (λ t. LineDoes read g t g') old new)
 wrote_line takes (Ok x) old new read name address a g g' some moved h = (Answered a, join_line read name address a g g' some moved, h)
 wrote_line takes (Err e) old new read name address a g g' some moved h = tt
 
 pub wrote_bench : {S X Y : Type 0} (takes : S → LineTold → S → Type 0) (r : Result X Y) (old new : S) (read : Option ScriptLine) (g g' : GarageValue) → unit_joined_by read ≡ None
-    → OnOk r (IsTold takes (λ t. BenchDoes read g t g') old new) → OnOk r (IsTold takes (λ t. LineDoes read g t g') old new)
+    → OnOk r (IsToldSo takes (λ t. BenchDoes read g t g') old new) → OnOk r (IsToldSo takes (λ t. LineDoes read g t g') old new)
 wrote_bench takes (Ok x) old new read g g' none h = (h.0, bench_line read g g' h.0 none h.1, h.2)
 wrote_bench takes (Err e) old new read g g' none h = tt
 

@@ -1,18 +1,19 @@
 -- What was told of a whole script, by what was told of each line.
-use Rattle.std.proofs.Common.{◌≡◌, ◌≢◌, ◌⊎◌, ℕ, ◌∙◌, List, [], ◌∷◌, ◌++◌, Option, Some, None, Bool, true, false, is_some, OnOk, Result, Ok, Err, ap, inl, inr, refl, subst, sym, true≢false}
+use Rattle.std.proofs.Common.{◌≡◌, ◌≢◌, ◌⊎◌, ℕ, ◌+◌, ◌∙◌, List, [], ◌∷◌, ◌++◌, Option, Some, None, Bool, true, false, is_some, OnOk, Result, Ok, Err, codes, append_assoc, ap, inl, inr, refl, subst, sym, true≢false}
 use Rattle.std.specs.Fmt.{decimal}
 use Rattle.std.specs.Io.KnownBytes.{Appends, Keeps}
 use Rattle.std.specs.List.{flat_map}
 use Rattle.std.proofs.KnownBytes.{Appends-kept, Appends-nil, Appends-trans}
+use Rattle.bus_model.specs.Heard.{counted}
 use Rattle.journal.specs.Journal.{GarageValue}
 use Rattle.script_answer.specs.declared.refusal.Refusal.{Refusal}
 use Rattle.script_line.specs.declared.reasons.LineReason.{LineReason}
 use Rattle.script_run.specs.Lines.{AnswersAll, IsScriptAnswered, LineTold, Silent, told_text}
-use Rattle.script_run.specs.Sinks.{Closes, TakesAll, TakesLine, TakesScript, Taking}
+use Rattle.script_run.specs.Sinks.{Closes, TakesAll, TakesOneLine, TakesScript, Taking}
 use Rattle.script_run.specs.declared.line_reporter.LineForm.{LineForm}
 use Rattle.script_run.specs.declared.line_reporter.LineForm.TheVariants as form
 use Rattle.script_run.specs.declared.wire.Wire.{Wire}
-use Rattle.script_run.specs.Telling.{IsCarriedOut, IsToldIf, TellsAll, TellsOf, asked_log, counted, refusal_told, refused_text, refused_with, seats_with}
+use Rattle.script_run.specs.Telling.{IsCarriedOut, IsToldIf, TellsAll, TellsOf, asked_log, no_seat_text, refusal_told, refused_text, refused_with, seats_with, why_text}
 
 -- the texts of all lines, where each was written behind those before it
 pub wrote_all : {S : Type 0} {K : Type 0} (by : Taking S) (kept : S → K) (text : S → Option (List ℕ)) (lines : List (List ℕ)) (s t : Option GarageValue) (x y : S)
@@ -77,7 +78,7 @@ abbrev pub Stays : {S V M : Type 0} → Views S V M → S → S → Type 0
 Stays v a b = (v.how b ≡ v.how a) × (v.wire b ≡ v.wire a) × (v.writer b ≡ v.writer a)
 
 abbrev pub Begins : {S V M : Type 0} → Views S V M → S → S → Type 0
-Begins v a b = Stays v a b × (v.errors b ≡ v.errors a) × (v.refused b ≡ v.refused a) × (v.seats b ≡ v.seats a) × (v.number b ≡ counted (v.number a)) × (v.refusal b ≡ None)
+Begins v a b = Stays v a b × (v.errors b ≡ v.errors a) × (v.refused b ≡ v.refused a) × (v.seats b ≡ v.seats a) × (v.number b ≡ counted (v.number a + 1)) × (v.refusal b ≡ None)
 
 abbrev pub Takes : {S V M : Type 0} → Views S V M → S → LineTold → S → Type 0
 Takes v a told b = Stays v a b × (v.errors b ≡ v.errors a) × (v.refused b ≡ v.refused a) × (v.seats b ≡ seats_with told (v.seats a)) × (v.number b ≡ v.number a) × (v.refusal b ≡ refusal_told told)
@@ -85,6 +86,16 @@ Takes v a told b = Stays v a b × (v.errors b ≡ v.errors a) × (v.refused b �
 abbrev pub Ends : {S V M N : Type 0} → Views S V M → (V → N) → (V → Option (List ℕ)) → List ℕ → Bool → S → S → Type 0
 Ends v lent known line had a b = Stays v a b × (v.number b ≡ v.number a) × (v.seats b ≡ v.seats a) × (v.refused b ≡ refused_with (v.refusal a) (v.refused a)) × (lent (v.errors b) ≡ lent (v.errors a))
     × ((told : List ℕ) × TellsOf (v.how a) (v.number a) (v.seats a) line had (v.refusal a) told × Appends (known (v.errors a)) (known (v.errors b)) told)
+
+-- the line of a seat that was not given, as it is written
+pub no_seat_written : {X Y : Type 0} (r : Result X Y) (old new : Option (List ℕ)) (o : Option ℕ) (k n : ℕ) → o ≡ Some k
+    → OnOk r (Appends old new (codes "no seat " ++ (decimal k ++ (codes "; seats given so far: " ++ (decimal n ++ codes "\n"))))) → OnOk r (Appends old new (no_seat_text o n ++ codes "\n"))
+no_seat_written r old new o k n is h =
+    let a = codes "no seat " in
+    let b = codes "; seats given so far: " in
+    let same : a ++ decimal k ++ b ++ decimal n ++ codes "\n" ≡ a ++ (decimal k ++ (b ++ (decimal n ++ codes "\n"))) =
+        append_assoc (a ++ decimal k ++ b) (decimal n) (codes "\n") ∙ append_assoc (a ++ decimal k) b (decimal n ++ codes "\n") ∙ append_assoc a (decimal k) (b ++ (decimal n ++ codes "\n")) in
+    subst (λ s. OnOk r (Appends old new (no_seat_text s n ++ codes "\n"))) (sym is) (subst (λ t. OnOk r (Appends old new t)) (sym same) h)
 
 not_empty : (xs ys : List ℕ) (c : ℕ) → xs ++ c ∷ ys ≢ []
 not_empty [] ys c = λ e. absurd cc
@@ -100,7 +111,10 @@ same_not_empty xs ys same some = λ e. some (sym same ∙ e)
 -- what is told of a refused line is something
 told_something : (how : LineForm) (n k : ℕ) (line : List ℕ) (had : Bool) (why : Option LineReason) (r : Refusal) → refused_text how n k line had why r ≢ []
 told_something form.Answer n k line had why r = not_empty [] _ 108
-told_something form.Reason n k line had why r = not_empty (decimal n) _ 58
+told_something form.Reason n k line had why r =
+    let number : decimal n ++ codes ": " ≢ [] = not_empty (decimal n) (32 ∷ []) 58 in
+    let reason : decimal n ++ codes ": " ++ why_text why line had k r ≢ [] = grown_not_empty (decimal n ++ codes ": ") (why_text why line had k r) number in
+    grown_not_empty (decimal n ++ codes ": " ++ why_text why line had k r) (codes "\n") reason
 
 -- from this on, lines were refused just where something was told
 abbrev pub IsToldFrom : List ℕ → Bool → Bool → Type 0
@@ -135,7 +149,7 @@ told_all by v lent known (line ∷ lines) s t x y begun took ended h =
     elim h.3 [
       | inl silent ↦
           let b = begun x h.2 silent.3 in
-          let all : TellsAll (v.how x) (counted (v.number x)) (v.seats x) lines h.1 rest.0 t = tells_from _ _ _ _ _ _ lines h.1 t rest.0 b.0.0 b.4 b.3 rest.1 in (
+          let all : TellsAll (v.how x) (counted (v.number x + 1)) (v.seats x) lines h.1 rest.0 t = tells_from _ _ _ _ _ _ lines h.1 t rest.0 b.0.0 b.4 b.3 rest.1 in (
             rest.0,
             (Silent, h.1, [], rest.0, refl, inl (silent.0, refl, silent.2), refl, all),
             subst (λ k. Appends (known k) (known (v.errors y)) rest.0) b.1 rest.2,
@@ -151,14 +165,14 @@ told_all by v lent known (line ∷ lines) s t x y begun took ended h =
           let z = ended line (is_some s) w.1 h.2 w.4 in
           let first = z.5.0 in
           let how : v.how w.1 ≡ v.how x = e.0.0 ∙ b.0.0 in
-          let number : v.number w.1 ≡ counted (v.number x) = e.4 ∙ b.4 in
+          let number : v.number w.1 ≡ counted (v.number x + 1) = e.4 ∙ b.4 in
           let seats : v.seats w.1 ≡ seats_with h.0 (v.seats x) = e.3 ∙ ap (seats_with h.0) b.3 in
           let errors : v.errors w.1 ≡ v.errors x = e.1 ∙ b.1 in
           let refused : v.refused h.2 ≡ refused_with (refusal_told h.0) (v.refused x) =
               z.3 ∙ ap (λ o. refused_with o (v.refused w.1)) e.5 ∙ ap (refused_with (refusal_told h.0)) (e.2 ∙ b.2) in
-          let one : TellsOf (v.how x) (counted (v.number x)) (seats_with h.0 (v.seats x)) line (is_some s) (refusal_told h.0) first =
+          let one : TellsOf (v.how x) (counted (v.number x + 1)) (seats_with h.0 (v.seats x)) line (is_some s) (refusal_told h.0) first =
               tells_of_from _ _ _ _ _ _ line (is_some s) _ _ first how number seats e.5 z.5.1 in
-          let all : TellsAll (v.how x) (counted (v.number x)) (seats_with h.0 (v.seats x)) lines h.1 rest.0 t =
+          let all : TellsAll (v.how x) (counted (v.number x + 1)) (seats_with h.0 (v.seats x)) lines h.1 rest.0 t =
               tells_from _ _ _ _ _ _ lines h.1 t rest.0 (z.0.0 ∙ how) (z.1 ∙ number) (z.2 ∙ seats) rest.1 in (
             first ++ rest.0,
             (h.0, h.1, first, rest.0, refl, inr (spoken.0, spoken.1), one, all),
@@ -207,17 +221,15 @@ carried by closes v lent known name text (Ok a) lines x y began begun took ended
         all.0,
         h.0,
         tells_from _ _ _ _ _ _ lines None h.0 all.0 refl began.0 began.2 all.1,
-        told_if all.0 _ _ began.1 refused,
-        subst (λ k. Appends (known (v.errors x)) (known k) all.0) (sym end.1) all.2,
-        wrote,
+        (told_if all.0 _ _ began.1 refused, subst (λ k. Appends (known (v.errors x)) (known k) all.0) (sym end.1) all.2, wrote),
       ),
     )
 
 -- what was told and written is what holds at the end
 pub carried_kept : (how : LineForm) (lines : List (List ℕ)) (wire : Option Wire) (P Q : List ℕ → Type 0) (a b c d e f : Option (List ℕ)) → ((told : List ℕ) → P told → Q told) → Keeps b c → Keeps e f
     → IsCarriedOut how lines (λ told s. P told × Appends a b told × Appends d e (asked_log wire s)) → IsCarriedOut how lines (λ told s. Q told × Appends a c told × Appends d f (asked_log wire s))
-carried_kept how lines wire P Q a b c d e f as errors writer h =
-    (h.0, h.1, h.2, as h.0 h.3, Appends-kept a b c _ h.4 errors, Appends-kept d e f _ h.5 writer)
+carried_kept how lines wire P Q a b c d e f shows errors writer h =
+    (h.0, h.1, h.2, (shows h.0 h.3.0, Appends-kept a b c _ h.3.1 errors, Appends-kept d e f _ h.3.2 writer))
 
 pub none_told : (refused : Bool) (told : List ℕ) → refused ≡ false → IsToldIf refused told → told ≡ []
 none_told refused told is h = elim h [ inl none ↦ none.0 | inr some ↦ absurd (true≢false (sym some.1 ∙ is)) ]

@@ -22,7 +22,7 @@ use Rattle.script_line.specs.declared.command.Command.TheVariants as command
 use Rattle.script_line.specs.declared.command.ScriptLine.{ScriptLine}
 use Rattle.script_line.specs.declared.command.StationWords.{StationWords}
 use Rattle.script_run.specs.Moves.{Moves, MovesByJoining}
-use Rattle.script_run.specs.Queries.{query_answer, report_at, shown_at}
+use Rattle.script_run.specs.Queries.{list_shown_at, query_answer, report_at}
 
 -- ---- before there is a garage
 
@@ -82,7 +82,7 @@ told_text (Showed text) = text
 
 -- what a query is answered that asks for one thing, and the list that `shown` asks for; nothing of any other command
 abbrev pub query_told : GarageValue → ℕ → Command → Option LineTold
-query_told g y (command.Shown (Ok name) kind) = Some (Showed (shown_at g y name kind))
+query_told g y (command.Shown (Ok name) kind) = Some (Showed (list_shown_at g y name kind))
 query_told g y c = option_map Answered (query_answer g y c)
 
 -- where a script stands: at a garage, once there is one

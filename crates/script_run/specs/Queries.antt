@@ -36,8 +36,8 @@ query_answer g y (command.Frame index) = Some (Ok (answer.Frame (option_map (λ 
 query_answer g y _ = None
 
 -- the text of what is shown: the list that this station heard under the NAME, of this kind
-abbrev pub shown_at : GarageValue → ℕ → ℕ → Kind → List ℕ
-shown_at g y name kind = shown_text (reverse (entries_heard (station_of_at g.settings y) name kind (readings_at y g.journal)))
+abbrev pub list_shown_at : GarageValue → ℕ → ℕ → Kind → List ℕ
+list_shown_at g y name kind = shown_text (reverse (entries_heard (station_of_at g.settings y) name kind (readings_at y g.journal)))
 
 -- the text of a station's report: a line for each NAME that it heard, then what it missed and could not read
 abbrev pub report_at : GarageValue → ℕ → List ℕ

@@ -12,18 +12,18 @@ pub record Taking (S : Type 0) : Type 1 where
   pub ends : List ℕ → Bool → S → S → Type 0
 
 -- it was told this, of which P holds
-abbrev pub IsTold : {S : Type 0} → (S → LineTold → S → Type 0) → (LineTold → Type 0) → S → S → Type 0
-IsTold takes P x y = (told : LineTold) × P told × takes x told y
+abbrev pub IsToldSo : {S : Type 0} → (S → LineTold → S → Type 0) → (LineTold → Type 0) → S → S → Type 0
+IsToldSo takes P x y = (told : LineTold) × P told × takes x told y
 
 -- a line was answered to it: a silent one has only begun
-abbrev pub TakesLine : {S : Type 0} → Taking S → List ℕ → Option GarageValue → LineTold → Option GarageValue → S → S → Type 0
-TakesLine {S} by line s told s' x y = (IsSilent line × (told ≡ Silent) × (s' ≡ s) × by.begins x y)
+abbrev pub TakesOneLine : {S : Type 0} → Taking S → List ℕ → Option GarageValue → LineTold → Option GarageValue → S → S → Type 0
+TakesOneLine {S} by line s told s' x y = (IsSilent line × (told ≡ Silent) × (s' ≡ s) × by.begins x y)
     ⊎ ((¬ IsSilent line) × StandDoes (line_spelled line) s told s' × ((b : S) × (e : S) × by.begins x b × by.takes b told e × by.ends line (is_some s) e y))
 
 -- lines were answered to it, one after another, each once
 unfoldable pub TakesAll : {S : Type 0} → Taking S → List (List ℕ) → Option GarageValue → Option GarageValue → S → S → Type 0
 TakesAll by [] s s' x y = (s' ≡ s) × (y ≡ x)
-TakesAll {S} by (line ∷ lines) s s' x y = (told : LineTold) × (t : Option GarageValue) × (z : S) × TakesLine by line s told t x z × TakesAll by lines t s' z y
+TakesAll {S} by (line ∷ lines) s s' x y = (told : LineTold) × (t : Option GarageValue) × (z : S) × TakesOneLine by line s told t x z × TakesAll by lines t s' z y
 
 -- it looked at the garage where the lines lead, where they lead to one
 abbrev pub Closes : {S : Type 0} → (GarageValue → S → S → Type 0) → Option GarageValue → S → S → Type 0

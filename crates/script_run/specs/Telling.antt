@@ -1,7 +1,8 @@
 -- What `check` and `log` tell of the lines that are refused, and the wire that `log` writes.
-use Rattle.std.specs.Prelude.{◌≡◌, ◌≢◌, ◌⊎◌, ℕ, ◌+◌, ◌*◌, ◌-◌, ◌^◌, min, nat_lt, if◌then◌else◌, Bool, true, false, List, [], ◌∷◌, ◌++◌, codes, map, take, Option, Some, None, is_some, MatchOption, option_and_then, ◌≤◌, Ok, Err, slice_get}
+use Rattle.std.specs.Prelude.{◌≡◌, ◌≢◌, ◌⊎◌, ℕ, ◌+◌, ◌*◌, ◌-◌, ◌^◌, nat_lt, if◌then◌else◌, Bool, true, false, List, [], ◌∷◌, ◌++◌, codes, map, take, Option, Some, None, is_some, MatchOption, option_and_then, ◌≤◌, Ok, Err, slice_get}
 use Rattle.std.specs.Fmt.{decimal}
 use Rattle.std.specs.Str.Parse.{digits_value, without_leading_plus}
+use Rattle.bus_model.specs.Heard.{counted}
 use Rattle.can_frame.specs.FrameValue.{FrameValue}
 use Rattle.candump_line.specs.LineText.{line_text}
 use Rattle.journal.specs.Journal.{GarageValue, state_of}
@@ -29,13 +30,9 @@ refusal_told (Showed text) = None
 refusal_told (Answered (Ok a)) = None
 refusal_told (Answered (Err r)) = Some r
 
--- one more, counted as far as 64 bits go
-abbrev pub counted : ℕ → ℕ
-counted n = min (n + 1) (2 ^ 64 - 1)
-
--- how many seats were given, with this line
+-- how many seats were given, with this line, counted as far as 64 bits go
 abbrev pub seats_with : LineTold → ℕ → ℕ
-seats_with (Answered (Ok (Seat k))) n = counted n
+seats_with (Answered (Ok (Seat k))) n = counted (n + 1)
 seats_with _ n = n
 
 -- a command that cannot be given where it stands: one before there is a garage, one of a station that is not there, or a second garage
@@ -85,8 +82,8 @@ refused_with (Some r) had = true
 unfoldable pub TellsAll : LineForm → ℕ → ℕ → List (List ℕ) → Option GarageValue → List ℕ → Option GarageValue → Type 0
 TellsAll how before seats [] s text s' = (text ≡ []) × (s' ≡ s)
 TellsAll how before seats (line ∷ lines) s text s' = (told : LineTold) × (t : Option GarageValue) × (first : List ℕ) × (rest : List ℕ)
-    × (text ≡ first ++ rest) × AnswersLine line s told t × TellsOf how (counted before) (seats_with told seats) line (is_some s) (refusal_told told) first
-    × TellsAll how (counted before) (seats_with told seats) lines t rest s'
+    × (text ≡ first ++ rest) × AnswersLine line s told t × TellsOf how (counted (before + 1)) (seats_with told seats) line (is_some s) (refusal_told told) first
+    × TellsAll how (counted (before + 1)) (seats_with told seats) lines t rest s'
 
 -- a whole script was carried out, and P holds of what was told and of the garage where its lines lead
 abbrev pub IsCarriedOut : LineForm → List (List ℕ) → (List ℕ → Option GarageValue → Type 0) → Type 0

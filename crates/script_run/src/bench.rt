@@ -7,7 +7,7 @@ ghost use Rattle.script_run.specs.Lines.{Answered, BenchDoes, Showed, StationDoe
 ghost use Rattle.script_run.specs.Moves.{MovesByJoining};
 ghost use Rattle.script_run.specs.Steps.{RunsRounds};
 ghost use Rattle.script_run.specs.Queries.{counts_answer, query_answer, report_at};
-ghost use Rattle.script_run.specs.Sinks.{IsTold};
+ghost use Rattle.script_run.specs.Sinks.{IsToldSo};
 
 use crate::answer_sink::AnswerSink;
 use crate::garage_commands::{ask, carry, command_to, inject, read, run_rounds};
@@ -92,7 +92,7 @@ impl Bench {
         read: &Option<ScriptLine>,
         sink: &mut L,
     ) -> Result<(), Unwritten>
-        ensures does { OnOk result (IsTold L.AnswerSink.takes (λ told. BenchDoes read.now self.old.garage told self.new.garage) sink.old sink.new) }
+        ensures does { OnOk result (IsToldSo L.AnswerSink.takes (λ told. BenchDoes read.now self.old.garage told self.new.garage) sink.old sink.new) }
     {
         match read {
             Some(ScriptLine { station, command }) if *station < self.garage.stations() => {
@@ -110,7 +110,7 @@ impl Bench {
         sink: &mut L,
     ) -> Result<(), Unwritten>
         requires { station < length self.old.garage.settings.stations }
-        ensures does { OnOk result (IsTold L.AnswerSink.takes (λ told. StationDoes station command.now self.old.garage told self.new.garage)
+        ensures does { OnOk result (IsToldSo L.AnswerSink.takes (λ told. StationDoes station command.now self.old.garage told self.new.garage)
             sink.old sink.new) }
     {
         match command {
@@ -126,7 +126,7 @@ impl Bench {
     /// Tells the report of a station.
     fn report<L: AnswerSink>(&self, station: u32, sink: &mut L) -> Result<(), Unwritten>
         requires { station < length self.now.garage.settings.stations }
-        ensures takes { OnOk result (IsTold L.AnswerSink.takes (λ told. (told ≡ Showed (report_at self.now.garage station))
+        ensures takes { OnOk result (IsToldSo L.AnswerSink.takes (λ told. (told ≡ Showed (report_at self.now.garage station))
             ⊎ (told ≡ Answered (Err (Refusal.Garage GarageError.OutOfMemory)))) sink.old sink.new) }
     {
         match self.garage.snapshot_at(self.alloc, station) {

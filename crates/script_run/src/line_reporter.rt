@@ -149,14 +149,15 @@ impl<'a, E: Write, W: Write> LineReporter<'a, E, W> {
 
 /// What a station shows, and its report, are passed over.
 impl<E: Write, W: Write> AnswerSink for LineReporter<'_, E, W> {
-    ghost use Rattle.std.specs.Prelude.{◌≡◌, ◌⊎◌, ℕ, List, Err, None, Some, IfErr, IfSome, IsErr, IsSomeAnd};
+    ghost use Rattle.std.specs.Prelude.{◌≡◌, ◌⊎◌, ◌+◌, ℕ, List, Err, None, Some, IfErr, IfSome, IsErr, IsSomeAnd};
     ghost use Rattle.std.specs.Io.KnownBytes.{Appends};
+    ghost use Rattle.bus_model.specs.Heard.{counted};
     ghost use Rattle.program_io.specs.declared.fault.Fault.TheVariants as fault;
     ghost use Rattle.script_answer.specs.Wants.{WantsMemory};
-    ghost use Rattle.script_run.specs.Telling.{TellsOf, asked_log, counted, refusal_told, refused_with, seats_with};
+    ghost use Rattle.script_run.specs.Telling.{TellsOf, asked_log, refusal_told, refused_with, seats_with};
 
     ghost begins = { λ a b. ((b.form ≡ a.form) × (b.wire ≡ a.wire) × (b.writer ≡ a.writer)) × (b.errors ≡ a.errors)
-        × (b.has_refused ≡ a.has_refused) × (b.seats ≡ a.seats) × (b.number ≡ counted a.number) × (b.refusal ≡ None) };
+        × (b.has_refused ≡ a.has_refused) × (b.seats ≡ a.seats) × (b.number ≡ counted (a.number + 1)) × (b.refusal ≡ None) };
 
     ghost takes = { λ a told b. ((b.form ≡ a.form) × (b.wire ≡ a.wire) × (b.writer ≡ a.writer)) × (b.errors ≡ a.errors)
         × (b.has_refused ≡ a.has_refused) × (b.seats ≡ seats_with told a.seats) × (b.number ≡ a.number) × (b.refusal ≡ refusal_told told) };

@@ -2,7 +2,7 @@ ghost use Rattle.std.specs.Prelude.{◌≡◌, None, IfErr, IsErr, IsOk, OnOk};
 ghost use Rattle.std.specs.Option.{option_map};
 ghost use Rattle.std.specs.Str.Lines.{lines};
 ghost use Rattle.script_run.specs.Lines.{FirstDoes, Makes, unit_joined_by, setting_meant};
-ghost use Rattle.script_run.specs.Sinks.{Closes, IsTold, TakesScript};
+ghost use Rattle.script_run.specs.Sinks.{Closes, IsToldSo, TakesScript};
 
 use crate::answer_sink::AnswerSink;
 use crate::bench::Bench;
@@ -115,7 +115,7 @@ fn begin<L: AnswerSink>(
     bench: &mut Option<Bench>,
     sink: &mut L,
 ) -> Result<(), Unwritten>
-    ensures does { bench.old ≡ None → OnOk result (IsTold L.AnswerSink.takes (λ told. FirstDoes read.now told (option_map (λ b. b.garage) bench.new))
+    ensures does { bench.old ≡ None → OnOk result (IsToldSo L.AnswerSink.takes (λ told. FirstDoes read.now told (option_map (λ b. b.garage) bench.new))
         sink.old sink.new) }
 {
     let Some(line) = read else {

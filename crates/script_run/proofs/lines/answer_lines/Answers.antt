@@ -4,7 +4,7 @@ use Rattle.std.proofs.lemmas.Iterator.Consumers.{YieldsList-end}
 use Rattle.std.proofs.lemmas.Iterator.Splits.{YieldsList-from_lines}
 use Rattle.std.proofs.lemmas.List.{map-append}
 use Rattle.script_run.specs.Lines.{StandDoes}
-use Rattle.script_run.specs.Sinks.{IsTold}
+use Rattle.script_run.specs.Sinks.{IsToldSo}
 use Rattle.script_run.specs.Moves.{MovesByJoining}
 use Rattle.script_run.proofs.Answering.{came_to, has_one, line_more, of_ok, on_both, on_err, silent_line, taken_all, takes_none, wrote_bench, wrote_line}
 use Rattle.script_run.proofs.lines.answer_lines.OwnLists.{at-1-1, own-1}
@@ -25,7 +25,7 @@ pub loop-line-preserved : goal.loop-line-preserved
 loop-line-preserved g c =
     let ended : IsOk c.end_line-heard.result = search rules in
     let is = c.read_line-read.ensures in
-    let did : OnOk c.match-bench.answered (IsTold g.L.AnswerSink.takes (λ told. StandDoes c.read_line-read.result (option_map (λ b. b.garage) c.loop-line.bench) told (option_map (λ b. b.garage) c.match-bench.bench))
+    let did : OnOk c.match-bench.answered (IsToldSo g.L.AnswerSink.takes (λ told. StandDoes c.read_line-read.result (option_map (λ b. b.garage) c.loop-line.bench) told (option_map (λ b. b.garage) c.match-bench.bench))
     c.begin_line.new.self c.match-bench.sink) = elim c.match-bench.branch [
       | in-Some-bench+in-Some-joining w ↦ elim w.match-new.branch [
         | in-Ok v ↦ came_to g.L.AnswerSink.takes (λ b. b.garage) c.read_line-read.result _ _ _ _ _ _ _ _ _ w.sink-is (w.bench-is ∙ v.bench-is) w.answered-is w.in-Some-bench.is

@@ -94,7 +94,7 @@ no_seat_written r old new o k n is h =
     let a = codes "no seat " in
     let b = codes "; seats given so far: " in
     let same : a ++ decimal k ++ b ++ decimal n ++ codes "\n" ≡ a ++ (decimal k ++ (b ++ (decimal n ++ codes "\n"))) =
-        append_assoc (a ++ decimal k ++ b) (decimal n) (codes "\n") ∙ append_assoc (a ++ decimal k) b (decimal n ++ codes "\n") ∙ append_assoc a (decimal k) (b ++ (decimal n ++ codes "\n")) in
+    append_assoc (a ++ decimal k ++ b) (decimal n) (codes "\n") ∙ append_assoc (a ++ decimal k) b (decimal n ++ codes "\n") ∙ append_assoc a (decimal k) (b ++ (decimal n ++ codes "\n")) in
     subst (λ s. OnOk r (Appends old new (no_seat_text s n ++ codes "\n"))) (sym is) (subst (λ t. OnOk r (Appends old new t)) (sym same) h)
 
 not_empty : (xs ys : List ℕ) (c : ℕ) → xs ++ c ∷ ys ≢ []
@@ -140,7 +140,7 @@ pub told_all : {S V M N : Type 0} (by : Taking S) (v : Views S V M) (lent : V �
     → ((a b : S) → by.begins a b → Begins v a b) → ((a b : S) (told : LineTold) → by.takes a told b → Takes v a told b)
     → ((line : List ℕ) (had : Bool) (a b : S) → by.ends line had a b → Ends v lent known line had a b)
     → TakesAll by lines s t x y → (told : List ℕ) × TellsAll (v.how x) (v.number x) (v.seats x) lines s told t × Appends (known (v.errors x)) (known (v.errors y)) told
-        × IsToldFrom told (v.refused x) (v.refused y) × (lent (v.errors y) ≡ lent (v.errors x)) × (v.wire y ≡ v.wire x) × (v.writer y ≡ v.writer x)
+    × IsToldFrom told (v.refused x) (v.refused y) × (lent (v.errors y) ≡ lent (v.errors x)) × (v.wire y ≡ v.wire x) × (v.writer y ≡ v.writer x)
 unfolding TakesAll TellsAll
 told_all by v lent known [] s t x y begun took ended h =
     ([], (refl, h.0), subst (λ k. Appends (known (v.errors x)) (known (v.errors k)) []) (sym h.1) (Appends-nil _), inl (refl, ap v.refused h.1), ap (λ k. lent (v.errors k)) h.1, ap v.wire h.1, ap v.writer h.1)
@@ -169,11 +169,11 @@ told_all by v lent known (line ∷ lines) s t x y begun took ended h =
           let seats : v.seats w.1 ≡ seats_with h.0 (v.seats x) = e.3 ∙ ap (seats_with h.0) b.3 in
           let errors : v.errors w.1 ≡ v.errors x = e.1 ∙ b.1 in
           let refused : v.refused h.2 ≡ refused_with (refusal_told h.0) (v.refused x) =
-              z.3 ∙ ap (λ o. refused_with o (v.refused w.1)) e.5 ∙ ap (refused_with (refusal_told h.0)) (e.2 ∙ b.2) in
+          z.3 ∙ ap (λ o. refused_with o (v.refused w.1)) e.5 ∙ ap (refused_with (refusal_told h.0)) (e.2 ∙ b.2) in
           let one : TellsOf (v.how x) (counted (v.number x + 1)) (seats_with h.0 (v.seats x)) line (is_some s) (refusal_told h.0) first =
-              tells_of_from _ _ _ _ _ _ line (is_some s) _ _ first how number seats e.5 z.5.1 in
+          tells_of_from _ _ _ _ _ _ line (is_some s) _ _ first how number seats e.5 z.5.1 in
           let all : TellsAll (v.how x) (counted (v.number x + 1)) (seats_with h.0 (v.seats x)) lines h.1 rest.0 t =
-              tells_from _ _ _ _ _ _ lines h.1 t rest.0 (z.0.0 ∙ how) (z.1 ∙ number) (z.2 ∙ seats) rest.1 in (
+          tells_from _ _ _ _ _ _ lines h.1 t rest.0 (z.0.0 ∙ how) (z.1 ∙ number) (z.2 ∙ seats) rest.1 in (
             first ++ rest.0,
             (h.0, h.1, first, rest.0, refl, inr (spoken.0, spoken.1), one, all),
             Appends-trans (known (v.errors x)) (known (v.errors h.2)) (known (v.errors y)) first rest.0 (subst (λ k. Appends (known k) (known (v.errors h.2)) first) errors z.5.2) rest.2,
@@ -194,9 +194,12 @@ Closed v name text s a b = (v.refused b ≡ v.refused a) × (v.errors b ≡ v.er
 -- at the end the wire is written, where there is a garage
 at_end : {S V M N : Type 0} (closes : GarageValue → S → S → Type 0) (v : Views S V M) (name : M → N) (text : M → Option (List ℕ))
     → ((g : GarageValue) (a b : S) → closes g a b → Closed v name text (Some g) a b) → (s : Option GarageValue) (x y : S) → Closes closes s x y → Closed v name text s x y
-at_end closes v name text closed None x y h =
-    (ap v.refused h, ap v.errors h, ap (λ k. name (v.writer k)) h,
-      subst (λ k. Appends (text (v.writer x)) (text (v.writer k)) (asked_log (v.wire x) None)) (sym h) (subst (λ t. Appends (text (v.writer x)) (text (v.writer x)) t) (sym (nothing_asked (v.wire x))) (Appends-nil _)))
+at_end closes v name text closed None x y h = (
+  ap v.refused h,
+  ap v.errors h,
+  ap (λ k. name (v.writer k)) h,
+  subst (λ k. Appends (text (v.writer x)) (text (v.writer k)) (asked_log (v.wire x) None)) (sym h) (subst (λ t. Appends (text (v.writer x)) (text (v.writer x)) t) (sym (nothing_asked (v.wire x))) (Appends-nil _)),
+)
 at_end closes v name text closed (Some g) x y h = closed g x y h
 
 told_if : (told : List ℕ) (a b : Bool) → a ≡ false → IsToldFrom told a b → IsToldIf b told
@@ -215,7 +218,7 @@ carried by closes v lent known name text (Ok a) lines x y began begun took ended
     let end = at_end closes v name text closed h.0 h.1 y h.3 in
     let refused : IsToldFrom all.0 (v.refused x) (v.refused y) = subst (λ k. IsToldFrom all.0 (v.refused x) k) (sym end.0) all.3 in
     let wrote : Appends (text (v.writer x)) (text (v.writer y)) (asked_log (v.wire x) h.0) =
-        subst (λ k. Appends (text k) (text (v.writer y)) (asked_log (v.wire x) h.0)) all.6 (subst (λ k. Appends (text (v.writer h.1)) (text (v.writer y)) (asked_log k h.0)) all.5 end.3) in (
+    subst (λ k. Appends (text k) (text (v.writer y)) (asked_log (v.wire x) h.0)) all.6 (subst (λ k. Appends (text (v.writer h.1)) (text (v.writer y)) (asked_log k h.0)) all.5 end.3) in (
       (ap lent end.1 ∙ all.4, end.2 ∙ ap name all.6),
       (
         all.0,

@@ -3,7 +3,8 @@
  *  - the kernel hands on 29-bit data frames alone, and what the controller tells of itself;
  *  - what the kernel dropped, since the program was slow (SO_RXQ_OVFL), or the controller lost, is a gap of so many frames, or of one: the
  *    station then forgets who has which address, and asks anew;
- *  - while the bus takes nothing, what is to be sent waits here; a reply may withdraw it; and while there is no room, nothing is read.
+ *  - while the bus takes nothing, what is to be sent waits here; a reply may withdraw it; and while there is no room, nothing is read;
+ *  - whatever claims, it has 1,024 NAMEs at most, and goes on for years.
  * `-` for the interface is a socket at standard input that takes and gives the same frames. It ends with status 1, and says why. */
 #define _DEFAULT_SOURCE
 #include "hidzgula_station.h"
@@ -19,7 +20,7 @@
 #include <string.h>
 #include <sys/socket.h>
 
-enum { ROOM = 64, MOST = 6, KEPT = 16 }; /* of frames that wait; that one frame makes at most, a gap's and its own; of each list */
+enum { ROOM = 64, MOST = 6, KEPT = 16, NAMES = 1024 }; /* of frames that wait; that one frame makes at most, a gap's and its own; of each list */
 
 static hidzgula_station station = HIDZGULA_EMPTY;
 static struct can_frame waiting[ROOM];
@@ -92,6 +93,7 @@ static void take(const struct can_frame *it)
 {
     hidzgula_reply reply;
     hidzgula_change change;
+    uint8_t anew = 0;
     if ((it->can_id & CAN_ERR_FLAG) && (it->can_id & CAN_ERR_CRTL) && (it->data[1] & CAN_ERR_CRTL_RX_OVERFLOW)) miss(1);
     if (missed && hidzgula_take_gap(&station, missed, &reply, NULL) == HIDZGULA_DONE) {
         printf("{\"missed\":%" PRIu32 "}\n", missed);
@@ -99,10 +101,12 @@ static void take(const struct can_frame *it)
         put_reply(&reply);
     }
     if ((it->can_id & (CAN_EFF_FLAG | CAN_RTR_FLAG | CAN_ERR_FLAG)) != CAN_EFF_FLAG) return;
-    if (missed || hidzgula_take_frame(&station, it->can_id & CAN_EFF_MASK, it->data, it->can_dlc, &reply, &change) != HIDZGULA_DONE) {
+    if (missed || hidzgula_make_room(&station, NAMES, &anew) != HIDZGULA_DONE ||
+        hidzgula_take_frame(&station, it->can_id & CAN_EFF_MASK, it->data, it->can_dlc, &reply, &change) != HIDZGULA_DONE) {
         miss(1);
         return;
     }
+    if (anew) printf("{\"anew\":true}\n");
     put_reply(&reply);
     if (change.what == HIDZGULA_LISTED) tell(&change);
 }

@@ -1,4 +1,7 @@
 pub mod Answered
+pub mod Begun
+pub mod BegunListening
+pub mod BegunLive
 pub mod HandleValues
 pub mod Keeping
 pub mod LineLemmas

@@ -140,8 +140,8 @@ far_told n a held h some far =
     not_le (inr more) = more.0
 
 -- within the list there is a NAME
-pub name_is_there : {P : Type 0} (names : List ℕ) (i n : ℕ) → i < n → n ≡ length names → None ≡ slice_get names i → P
-name_is_there names i n l e none = absurd (cc (none, slice_get-get_or names i 0 (omega (arith, l, e))))
+pub name_is_there : {P : Type 0} (rows : List (ℕ × KeptValue)) (i n : ℕ) → i < n → n ≡ length rows → None ≡ slice_get (map (λ e. e.0) rows) i → P
+name_is_there rows i n l e none = absurd (cc (none, slice_get-get_or (map (λ e. e.0) rows) i 0 (omega (arith, length-map rows (λ e. e.0), l, e))))
 
 -- ---- one reading has one NAME more at most
 

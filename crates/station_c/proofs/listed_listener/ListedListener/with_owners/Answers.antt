@@ -20,5 +20,5 @@ loop-place-preserved c =
                 w.in_ok-tell_claim.ensures.heard c.loop-place.invariant.0,
             w.in_ok-tell_claim.ensures.quiet c.args.self.now c.loop-place.invariant.1,
           ))
-      | in_default w ↦ name_is_there names c.loop-place.place _ c.loop-place-test.true (search rules) (search rules)
+      | in_default w ↦ name_is_there ear.rows c.loop-place.place _ c.loop-place-test.true (search rules) (search rules)
     ]

@@ -17,5 +17,5 @@ loop-place-preserved c =
           (more_told (λ (h : List Reading). StandsAfter c.args.address c.args.self.now c.loop-place.fresh h) (λ (h : List Reading). StandsAfter c.args.address c.args.self.now w.hear_claim.new.self h)
           (holds station.owners station.rows) names c.loop-place.place w.in-Some.name w.address_of-held.result [] (search rules) (search rules)
           (λ h before. w.in_ok-hear_claim.ensures c.args.address c.args.self.now h before) c.loop-place.invariant))
-      | in_default w ↦ name_is_there names c.loop-place.place _ c.loop-place-test.true (search rules) (search rules)
+      | in_default w ↦ name_is_there station.rows c.loop-place.place _ c.loop-place-test.true (search rules) (search rules)
     ]

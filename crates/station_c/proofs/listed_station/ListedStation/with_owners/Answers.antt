@@ -19,5 +19,5 @@ loop-place-preserved c =
           (λ (h : List Reading). StandsListed (record { name = station.claimer.name; address = c.args.address }) station.grant c.args.self.now.lists.keep w.tell_claim.new.self h)
           (holds station.owners station.rows) names c.loop-place.place w.in-Some.name w.address_of-held.result [] (search rules) (search rules)
           (λ h before. w.in_ok-tell_claim.ensures _ _ _ h before) c.loop-place.invariant))
-      | in_default w ↦ name_is_there names c.loop-place.place _ c.loop-place-test.true (search rules) (search rules)
+      | in_default w ↦ name_is_there station.rows c.loop-place.place _ c.loop-place-test.true (search rules) (search rules)
     ]

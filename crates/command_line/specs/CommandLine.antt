@@ -88,6 +88,7 @@ abbrev pub tester_shape : Shape
 tester_shape = subcommand_shape (codes "tester")
     (value_rule (codes "name") ∷ value_rule (codes "address") ∷ value_rule (codes "grant") ∷ value_rule (codes "bus") ∷ value_rule (codes "control")
     ∷ value_rule (codes "gap") ∷ value_rule (codes "settle") ∷ value_rule (codes "pace") ∷ value_rule (codes "times") ∷ value_rule (codes "format")
+    ∷ value_rule (codes "report") ∷ value_rule (codes "every") ∷ value_rule (codes "most") ∷ value_rule (codes "keep")
     ∷ flag_rule (codes "strict") ∷ flag_rule (codes "yes") ∷ rest_rule (codes "order") ∷ [])
 
 -- the command `j1939bench`: it has a version, and wants one of its subcommands

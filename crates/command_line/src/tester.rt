@@ -34,14 +34,14 @@ Each order has one verdict, a line on standard error:
 answered, with what was told; positive, or cleared where a list that began behind the answer has no code; refused; busy; obeyed; done;
 no such unit; unread; silent; in doubt: nobody can tell whether it was done; lost address; withheld: it wants --yes; cut off.
 
-Status: 0 each order got what it asked for; 1 a read or write failed, or memory ran out; 2 the command line; 3 done, but lines were bad, or
-none was a frame; 4 an order did not get what it asked for.
+Status: 0 each order got what it asked for; 1 a read or write failed, or memory ran out; 2 the command line; 3 done, but lines were bad,
+none was a frame, or the report was begun anew; 4 an order did not get what it asked for.
 
 With --times lines a log is read as fast as it goes, and what is written has the time at which it is due."
 }
 
 /// Its options.
-const OPTIONS: [CommandOption<'static>; 13] = [
+const OPTIONS: [CommandOption<'static>; 17] = [
     CommandOption {
         name: "name",
         value: "NAME",
@@ -98,8 +98,32 @@ const OPTIONS: [CommandOption<'static>; 13] = [
     },
     CommandOption {
         name: "format",
-        value: "text|json",
-        help: "How it is told what becomes of orders [text]",
+        value: "FORM",
+        help: "How it is told what becomes of orders: text or json; of the report also csv or html [text]",
+        given: Given::Once,
+    },
+    CommandOption {
+        name: "report",
+        value: "FILE",
+        help: "The file of the report of what the bus said, by its ending .txt, .json, .csv or .html, else as --format has it",
+        given: Given::Once,
+    },
+    CommandOption {
+        name: "every",
+        value: "S",
+        help: "Seconds from a report that is no page to the next, 1 to 86400; else it is written at the end",
+        given: Given::Once,
+    },
+    CommandOption {
+        name: "most",
+        value: "N",
+        help: "Of how many NAMEs is known at once, 512 to 1000000 [65536]",
+        given: Given::Once,
+    },
+    CommandOption {
+        name: "keep",
+        value: "N",
+        help: "How many runs of equal entries the report keeps at once, 1 to 100000000 [1000000]",
         given: Given::Once,
     },
     CommandOption {
@@ -164,6 +188,10 @@ fn words<'a>(found: &ArgMatches<'a>) -> TesterArguments<'a> {
         times: found.get_str("times"),
         format: found.get_str("format"),
         control: found.get_str("control"),
+        report: found.get_str("report"),
+        every: found.get_str("every"),
+        most: found.get_str("most"),
+        keep: found.get_str("keep"),
         strict: found.get_flag("strict"),
         yes: found.get_flag("yes"),
     }

@@ -1,6 +1,7 @@
 //! `j1939bench_tester`: the subcommand `tester` of `j1939bench`, a station on a real bus that asks, reads and clears.
 #![tactic(auto)]
 
+mod report_file;
 mod tester;
 
 use command_line::{asked_for, done_elsewhere, ended, read_words};
@@ -13,11 +14,11 @@ use std::sync::Wait;
 use std::thread::Threads;
 
 fn main(rt: HostRuntime) -> ExitCode {
-    let ran = run(&rt);
+    let ran = run(&rt, &rt);
     ended(&rt, ran)
 }
 
-/// Does what the words of the command line ask for.
+/// Does what the words of the command line ask for. (The host writes the report: that one is known to go to any thread.)
 fn run<
     R: Runtime
         + AllocGlobal
@@ -28,10 +29,10 @@ fn run<
         + Input<Reader = StdinLock<'static>>
         + Files<File = File>
         + 'static,
->(rt: &R) -> Result<(), Failure> {
+>(rt: &R, host: &HostRuntime) -> Result<(), Failure> {
     let words = read_words(rt)?;
     match asked_for(rt, words.as_slice())? {
-        Some(Job::Tester { words, orders }) => tester::tester(rt, words, orders.as_slice()),
+        Some(Job::Tester { words, orders }) => tester::tester(rt, host, words, orders.as_slice()),
         Some(_) => Err(done_elsewhere(rt.alloc())),
         None => Ok(()),
     }

@@ -1,5 +1,6 @@
 //! `tester`: its files are opened here.
 
+use crate::report_file::PutFile;
 use command_line::{Errors, open};
 use program_io::{Failure, TesterArguments};
 use std::fs::{File, OpenOptions};
@@ -8,6 +9,7 @@ use std::io::StdinLock;
 use std::rt::{Files, Runtime};
 use std::sync::Wait;
 use std::thread::Threads;
+use tester_command::{TesterFiles, TesterWords, look_at_tester_words};
 
 /// Puts a station on the bus that standard input tells of.
 #[inline(never)]
@@ -21,19 +23,30 @@ pub(crate) fn tester<
         + Input<Reader = StdinLock<'static>>
         + Files<File = File>
         + 'static,
->(rt: &R, words: TesterArguments<'_>, orders: &[&str]) -> Result<(), Failure> {
-    tester_command::look_at_tester_words(rt.alloc(), &words, orders)?;
+>(rt: &R, host: &HostRuntime, words: TesterArguments<'_>, orders: &[&str]) -> Result<(), Failure> {
+    look_at_tester_words(rt.alloc(), &words, orders)?;
+    let report = match words.report {
+        Some(path) => Some(PutFile::new(host, path)?),
+        None => None,
+    };
     let control = match words.control {
         Some(path) => Some(open_orders(rt, path)?),
         None => None,
     };
+    let files = TesterFiles {
+        bus: boxed_reader(rt)?,
+        control,
+        report,
+    };
+    let words = TesterWords {
+        options: &words,
+        orders,
+    };
     tester_command::tester(
         rt,
         rt.alloc(),
-        &words,
-        orders,
-        boxed_reader(rt)?,
-        control,
+        words,
+        files,
         &mut io::writer(rt),
         &mut Errors::new(rt),
     )

@@ -165,9 +165,9 @@ pub fn number_of<'a>(
     usual: u64,
     wanted: &'a str,
 ) -> Result<u64, ArgumentError<'a>>
-    requires usual { usual ≤ 100000 }
-    requires most { most ≤ 100000 }
-    ensures { IfOk result (λ n. n ≤ 100000) }
+    requires least { least ≤ usual }
+    requires most { usual ≤ most }
+    ensures { IfOk result (λ n. (least ≤ n) × (n ≤ most)) }
 {
     let Some(word) = word else {
         return Ok(usual);

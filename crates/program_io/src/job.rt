@@ -66,6 +66,14 @@ pub struct TesterArguments<'a> {
     pub format: Option<&'a str>,
     /// A file of further orders.
     pub control: Option<&'a str>,
+    /// The file of the report of what the bus said.
+    pub report: Option<&'a str>,
+    /// Seconds from a report to the next.
+    pub every: Option<&'a str>,
+    /// Of how many NAMEs is known at once.
+    pub most: Option<&'a str>,
+    /// How many runs of equal entries are kept at once for the report.
+    pub keep: Option<&'a str>,
     /// Whether the first bad line ends the run.
     pub strict: bool,
     /// Whether it may clear all units, and command one to an address that is held.

@@ -11,11 +11,14 @@ mod order;
 mod order_words;
 mod part;
 mod queue;
+mod report;
+mod reported;
 mod run;
 mod teller;
 mod turns;
 mod wanted;
 mod words;
 
-pub use run::tester;
+pub use report::ReportFile;
+pub use run::{TesterFiles, TesterWords, tester};
 pub use words::look_at_tester_words;

@@ -1,14 +1,17 @@
 //! A station on a bus, which carries out orders one after the other.
 
+ghost use Rattle.std.specs.Prelude.{◌≤◌, ◌≡◌, ◌≢◌, None};
+ghost use Rattle.can_frame.specs.declared.address.TheConstants.{GREATEST_ADDRESS as GREATEST};
+
 use crate::lines::VerdictLine;
 use crate::part::{Clears, Outcome, Seen, UnitOutcome};
 use crate::queue::{LineOrder, NumberedOrder, OrderQueue};
 use crate::teller::Teller;
 use crate::words::TesterWays;
-use can_frame::{Frame, Pgn};
+use can_frame::{Frame, GREATEST_ADDRESS, Pgn};
 use entry_lists::{NewestEntries, Row};
 use live_lines::{HeardFrame, OnBus, ended_short};
-use live_station::{HearError, LiveStation, Pulled, Told, Verdict};
+use live_station::{HearError, LiveStation, Pulled, StationTimes, Told, Verdict};
 use log_lines::LinesEnd;
 use name_field::Name;
 use std::alloc::{AllocError, Global};
@@ -41,6 +44,9 @@ pub(crate) enum Doing {
     },
 }
 
+/// How long it is at least until it begins anew again, in microseconds: as long as until it asks for claims again.
+const ANEW: u64 = 1_250_000;
+
 /// A station on a bus, its orders, and what was told.
 #[derive(Drop)]
 pub(crate) struct Tester {
@@ -65,6 +71,18 @@ pub(crate) struct Tester {
     has_failed: bool,
     /// Whether memory was refused.
     pub(crate) is_short: bool,
+    /// How it takes part, where it begins anew.
+    part: TakesPart,
+    /// From when on it may begin anew.
+    anew_from: u64,
+}
+
+/// How a station takes part in its bus, and of how many NAMEs it knows at once.
+#[derive(Clone, Copy)]
+struct TakesPart {
+    grant: u8,
+    times: StationTimes,
+    most: usize,
 }
 
 impl Tester {
@@ -92,6 +110,12 @@ impl Tester {
             is_done: false,
             has_failed: false,
             is_short: false,
+            part: TakesPart {
+                grant: ways.grant,
+                times: ways.times,
+                most: ways.most,
+            },
+            anew_from: 0,
         })
     }
 
@@ -158,6 +182,46 @@ impl Tester {
     /// That of the unit that a verdict is of.
     pub(crate) fn address_of(&self, verdict: &Verdict) -> Option<u8> {
         self.claimed(verdict.order.name()?)
+    }
+
+    /// Whether it knows as many NAMEs as it may.
+    fn is_full(&self) -> bool {
+        self.station.station().names() >= self.part.most
+    }
+
+    /// Where it knows as many NAMEs as it may, holds an address, and no order is open, it begins anew: it claims that address again,
+    /// and asks for the claims of all. It does so at most each 1,250 ms.
+    fn make_room<N: Write>(&mut self, alloc: Global, now: u64, notes: &mut N)
+        ensures open { self.old.station.order ≢ None → self.new.station ≡ self.old.station }
+    {
+        if now < self.anew_from || !self.is_full() || self.station.open().is_some() {
+            return;
+        }
+        if let Some(held) = self.station.held() {
+            self.anew_from = now.saturating_add(ANEW);
+            self.begin_anew(alloc, held.min(GREATEST_ADDRESS), notes);
+        }
+    }
+
+    /// Begins anew at this address, 0 to 253.
+    fn begin_anew<N: Write>(&mut self, alloc: Global, address: u8, notes: &mut N)
+        requires { address ≤ GREATEST }
+    {
+        let grant = self.part.grant.max(1);
+        match LiveStation::new(alloc, self.name, address, grant, self.part.times) {
+            Ok(station) => {
+                self.station = station;
+                self.lists = NewestEntries::new(alloc, 1);
+                self.teller.forgot(notes, self.part.most);
+            }
+            Err(_) => self.is_short = true,
+        }
+    }
+
+    /// Whether a frame tells it nothing that it needs: it knows as many NAMEs as it may, and without an address it sends nothing to
+    /// any, so that it passes over claims.
+    fn is_of_no_use(&self, frame: &Frame) -> bool {
+        frame.id().pgn() == Pgn::ADDRESS_CLAIMED && self.station.held().is_none() && self.is_full()
     }
 
     /// Hears a frame. One that cannot be heard for want of memory counts as one that was not read.
@@ -262,7 +326,10 @@ impl OnBus for Tester {
     fn hear<N: Write>(&mut self, alloc: Global, heard: &HeardFrame, now: u64, notes: &mut N) {
         self.teller.mark.line = heard.line;
         self.teller.mark.time = heard.time;
-        self.hear_frame(alloc, &heard.frame, now, notes);
+        self.make_room(alloc, now, notes);
+        if !self.is_of_no_use(&heard.frame) {
+            self.hear_frame(alloc, &heard.frame, now, notes);
+        }
     }
 
     fn miss<N: Write>(&mut self, alloc: Global, count: u32, now: u64, notes: &mut N) {

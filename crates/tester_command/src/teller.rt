@@ -169,6 +169,23 @@ impl Teller {
         self.tell(notes, words);
     }
 
+    /// The station knew of so many NAMEs, and begins anew.
+    pub(crate) fn forgot<N: Write>(&mut self, notes: &mut N, most: usize) {
+        let line = self.mark.line;
+        let words = format!(in self.alloc;
+            "line {line}: {most} NAMEs are known (--most): the station claims its address anew, and asks for the claims of all\n"
+        );
+        self.tell(notes, words);
+    }
+
+    /// As much is kept for the report as may be, before the line of this number.
+    pub(crate) fn anew<N: Write>(&mut self, notes: &mut N, line: u64) {
+        let words = format!(in self.alloc;
+            "line {line}: more is heard than is kept at once (--most, --keep): the report is begun anew\n"
+        );
+        self.tell(notes, words);
+    }
+
     fn own_object(&self, address: Option<u8>, why: &'static str) -> Result<String, AllocError> {
         OwnObject {
             mark: self.mark,

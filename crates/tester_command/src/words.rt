@@ -8,6 +8,7 @@ use live_station::StationTimes;
 use name_field::Name;
 use program_io::{ArgumentError, Failure, Fault, TesterArguments};
 use std::alloc::{AllocError, Global};
+use watch_lines::{Limits, WatchForm};
 
 /// How a tester takes part in its bus, and how it tells what becomes of orders.
 #[derive(Clone, Copy)]
@@ -21,6 +22,10 @@ pub(crate) struct TesterWays<'a> {
     pub(crate) lines: BusWays<'a>,
     /// Whether it tells in objects of JSON.
     pub(crate) json: bool,
+    /// How it reports what the bus said, where that is wanted.
+    pub(crate) report: Option<ReportWays>,
+    /// Of how many NAMEs is known at once.
+    pub(crate) most: usize,
     /// Whether it may clear all units, and command one to an address that is held.
     pub(crate) yes: bool,
     ghost fits: { address ≤ GREATEST_ADDRESS },
@@ -49,6 +54,8 @@ impl<'a> TesterWays<'a> {
         let address = wanted_address(words.address)?;
         let grant = grant_of(words.grant)?;
         let json = is_json(words.format)?;
+        let most = most_of(words.most)?;
+        let report = report_of(words, most)?;
         let Some(word) = words.name else {
             return Ok(None);
         };
@@ -59,9 +66,20 @@ impl<'a> TesterWays<'a> {
             times,
             lines,
             json,
+            report,
+            most,
             yes: words.yes,
         }))
     }
+}
+
+/// How what the bus said is reported.
+#[derive(Clone, Copy)]
+pub(crate) struct ReportWays {
+    pub(crate) form: WatchForm,
+    pub(crate) limits: Limits,
+    /// How long it is from a report to the next, in microseconds; none: it is written at the end alone.
+    pub(crate) every: Option<u64>,
 }
 
 /// Looks at the words behind `tester`, before anything is read.
@@ -166,10 +184,81 @@ fn grant_of(word: Option<&str>) -> Result<u8, ArgumentError<'_>>
     Ok(u8::try_from(number).unwrap_or(255).max(1))
 }
 
+/// Whether objects of JSON are asked for, and not text, or a form of the report alone.
 fn is_json(word: Option<&str>) -> Result<bool, ArgumentError<'_>> {
     match word {
-        None | Some("text") => Ok(false),
+        None | Some("text" | "csv" | "html") => Ok(false),
         Some("json") => Ok(true),
-        Some(word) => Err(slip("format <text|json>", word, "text or json")),
+        Some(word) => Err(slip("format <FORM>", word, FORMS)),
     }
+}
+
+const FORMS: &str = "text or json, or with a --report whose ending says nothing csv or html";
+
+/// How what the bus said is reported, where a file is named for it. CSV and pages are for such a file alone.
+fn report_of<'a>(
+    words: &TesterArguments<'a>,
+    most: usize,
+) -> Result<Option<ReportWays>, ArgumentError<'a>> {
+    let every = every_of(words.every)?;
+    let keep = keep_of(words.keep)?;
+    let Some(path) = words.report else {
+        return match (words.format, words.every) {
+            (Some(word @ ("csv" | "html")), _) => Err(slip("format <FORM>", word, FORMS)),
+            (_, Some(word)) => Err(slip("every <S>", word, "with a --report")),
+            _ => Ok(None),
+        };
+    };
+    let form = match (form_of_ending(path), words.format) {
+        (Some(_), Some(word @ ("csv" | "html"))) => return Err(slip("format <FORM>", word, FORMS)),
+        (Some(form), _) => form,
+        (None, Some("json")) => WatchForm::Json,
+        (None, Some("csv")) => WatchForm::Csv,
+        (None, Some("html")) => WatchForm::Html,
+        (None, _) => WatchForm::Text,
+    };
+    if let (WatchForm::Html, Some(word)) = (form, words.every) {
+        return Err(slip("every <S>", word, "for a report that is no page"));
+    }
+    Ok(Some(ReportWays {
+        form,
+        limits: Limits { most, keep },
+        every,
+    }))
+}
+
+/// The form that the ending of a path says, if it says one.
+fn form_of_ending(path: &str) -> Option<WatchForm> {
+    let (_, ending) = path.rsplit_once('.')?;
+    match ending {
+        "txt" => Some(WatchForm::Text),
+        "json" => Some(WatchForm::Json),
+        "csv" => Some(WatchForm::Csv),
+        "html" | "htm" => Some(WatchForm::Html),
+        _ => None,
+    }
+}
+
+/// How long it is from a report to the next, in microseconds, where the word has seconds.
+fn every_of(word: Option<&str>) -> Result<Option<u64>, ArgumentError<'_>> {
+    if word.is_none() {
+        return Ok(None);
+    }
+    let seconds = number_of("every <S>", word, 1, 86_400, 1, "a number from 1 to 86400")?;
+    Ok(Some(1_000_000 * seconds))
+}
+
+/// Of how many NAMEs is known at once: more than there are addresses.
+fn most_of(word: Option<&str>) -> Result<usize, ArgumentError<'_>>
+    ensures { IfOk result (λ n. (512 ≤ n) × (n ≤ 1000000)) }
+{
+    let wanted = "a number from 512 to 1000000";
+    let most = number_of("most <N>", word, 512, 1_000_000, 65_536, wanted)?;
+    Ok(most as usize)
+}
+
+/// How many runs are kept at once.
+fn keep_of(word: Option<&str>) -> Result<u64, ArgumentError<'_>> {
+    let wanted = "a number from 1 to 100000000";
+    number_of("keep <N>", word, 1, 100_000_000, 1_000_000, wanted)
 }

@@ -1,11 +1,11 @@
 use crate::kept::PageHistory;
 use crate::options::WatchOptions;
-use bus_watch::Buses;
+use bus_watch::{BusShown, Buses, WatchSettings};
 use log_lines::LogFault;
 use picture::{EarlierVisit, SinceThen};
 use std::alloc::{AllocError, Global};
 use std::io::Write;
-use watch_reports::{ReportOptions, ReportPart, Reported, write_report};
+use watch_reports::{ReportOptions, ReportPart, Reported, WatchForm, write_report};
 
 /// What was heard: the watches of the buses, and what is kept beside them.
 #[derive(Drop)]
@@ -27,6 +27,21 @@ impl Heard {
             options.settings.selection.to,
             options.signals.is_some(),
         );
+        of_both(buses, kept)
+    }
+
+    /// Nothing yet of buses that are shown so, without values of signals.
+    ///
+    /// # Errors
+    /// Memory was refused.
+    pub(crate) fn of(
+        alloc: Global,
+        settings: &WatchSettings,
+        bus: BusShown<'_>,
+        form: WatchForm,
+    ) -> Result<Heard, AllocError> {
+        let buses = Buses::new(alloc, *settings, bus);
+        let kept = PageHistory::new(alloc, form, settings.selection.to, false);
         of_both(buses, kept)
     }
 

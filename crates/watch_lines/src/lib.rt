@@ -3,6 +3,7 @@
 #![tactic(auto)]
 
 mod absent;
+mod bus_report;
 mod ever;
 mod heard;
 mod hearing;
@@ -15,6 +16,9 @@ mod run;
 mod units;
 mod values;
 
+pub use bus_report::BusReport;
+pub use bus_watch::Limits;
 pub use options::WatchOptions;
 pub use run::{Watched, watch};
+pub use shop_texts::UnitTexts;
 pub use watch_reports::{Assumed, WatchForm, read_visit};

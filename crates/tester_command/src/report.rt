@@ -1,0 +1,155 @@
+//! The report of what the bus of a tester said.
+ghost use Rattle.std.specs.Prelude.{◌≤◌};
+
+use live_lines::HeardFrame;
+use log_lines::{LinesEnd, LogFault};
+use std::alloc::Global;
+use std::io;
+use watch_lines::BusReport;
+
+/// Where reports are put: each in whole, so that nobody reads half of one.
+pub trait ReportFile: Drop {
+    /// Puts a report in the place of the one before. One of a part, from 1, stands beside those that follow.
+    ///
+    /// # Errors
+    /// It could not be written.
+    fn put(&mut self, part: Option<u64>, report: &[u8]) -> io::Result<()>;
+}
+
+/// The report of a bus, and when it is written.
+#[derive(Drop)]
+pub(crate) struct Reporter<F> {
+    alloc: Global,
+    report: BusReport,
+    file: F,
+    /// How long it is from a report to the next, in microseconds; none: it is written at the end alone.
+    every: Option<u64>,
+    due: Option<u64>,
+    /// How often it was begun anew.
+    parts: u64,
+    /// Why a report was not written, or a line is missing in it.
+    fault: Option<LogFault>,
+    /// Whether memory was refused for what was heard: it hears nothing more.
+    is_short: bool,
+}
+
+impl<F: ReportFile> Reporter<F> {
+    /// One who has heard nothing.
+    pub(crate) fn new(
+        alloc: Global,
+        report: BusReport,
+        file: F,
+        every: Option<u64>,
+    ) -> Reporter<F> {
+        Reporter {
+            alloc,
+            report,
+            file,
+            every,
+            due: None,
+            parts: 0,
+            fault: None,
+            is_short: false,
+        }
+    }
+
+    /// Hears a frame. Where as much is kept as may be, what was heard before stands in a file of its own. Answers whether that is so
+    /// for the first time.
+    pub(crate) fn hear(&mut self, alloc: Global, heard: &HeardFrame) -> bool {
+        if self.is_short {
+            return false;
+        }
+        let is_first = self.report.is_full() && self.begin_anew(alloc, heard.line);
+        let ended = self.report.hear(alloc, heard.line, heard.time, heard.frame);
+        self.note_heard(ended);
+        is_first
+    }
+
+    /// So many frames were missed behind the line of this number.
+    pub(crate) fn miss(&mut self, alloc: Global, line: u64, count: u32) {
+        if !self.is_short {
+            let ended = self.report.miss(alloc, line, count);
+            self.note_heard(ended);
+        }
+    }
+
+    /// Writes the report, where it is due at this time.
+    pub(crate) fn step(&mut self, now: u64) {
+        let Some(every) = self.every else {
+            return;
+        };
+        match self.due {
+            Some(due) if due > now => {}
+            due => {
+                self.due = Some(now.saturating_add(every));
+                if due.is_some() {
+                    self.write();
+                }
+            }
+        }
+    }
+
+    /// When it is due, at this time or later.
+    pub(crate) fn next(&self, now: u64) -> u64
+        ensures { now ≤ result }
+    {
+        match (self.every, self.due) {
+            (Some(_), Some(due)) => due.max(now),
+            (Some(_), None) => now,
+            (None, _) => u64::MAX,
+        }
+    }
+
+    /// Writes the report of what was heard so far.
+    pub(crate) fn write(&mut self) {
+        let mut text = Vec::new(self.alloc);
+        match self.report.write(self.alloc, &mut text) {
+            Ok(()) => self.put(None, text.as_slice()),
+            Err(_) => self.note(LogFault::Memory),
+        }
+    }
+
+    /// How a run ended whose lines ended so: where a report was not written, with its fault; that it was begun anew counts as lines
+    /// that were not read do.
+    pub(crate) fn ended(&self, lines: LinesEnd) -> LinesEnd {
+        LinesEnd {
+            fault: lines.fault.or(self.fault),
+            is_unread: lines.is_unread || self.parts > 0,
+            ..lines
+        }
+    }
+
+    /// Begins anew before the line of this number. Answers whether it is the first time.
+    fn begin_anew(&mut self, alloc: Global, line: u64) -> bool {
+        self.parts = self.parts.saturating_add(1);
+        let mut text = Vec::new(alloc);
+        let ended = self.report.begin_anew(alloc, &mut text, line);
+        if ended.is_ok() && !text.is_empty() {
+            self.put(Some(self.parts), text.as_slice());
+        }
+        self.note_heard(ended);
+        self.parts == 1
+    }
+
+    /// Puts a report.
+    fn put(&mut self, part: Option<u64>, text: &[u8]) {
+        if let Err(error) = self.file.put(part, text) {
+            self.note(LogFault::of_write(error));
+        }
+    }
+
+    /// How it went to hear something. (What is written into memory fails for want of that alone.)
+    fn note_heard(&mut self, ended: Result<(), LogFault>) {
+        if ended.is_err() {
+            self.is_short = true;
+            self.note(LogFault::Memory);
+        }
+    }
+
+    /// The first fault counts.
+    fn note(&mut self, fault: LogFault) {
+        if self.fault.is_none() {
+            self.fault = Some(fault);
+        }
+    }
+}

@@ -1,6 +1,7 @@
 //! `tester`: its files are opened here.
 
 use crate::report_file::PutFile;
+use crate::terminal::Terminal;
 use command_line::{Errors, open};
 use program_io::{Failure, TesterArguments};
 use std::fs::{File, OpenOptions};
@@ -37,6 +38,11 @@ pub(crate) fn tester<
         bus: boxed_reader(rt)?,
         control,
         report,
+        terminal: if is_terminal {
+            Some(Terminal::new(rt))
+        } else {
+            None
+        },
     };
     let words = TesterWords {
         options: &words,

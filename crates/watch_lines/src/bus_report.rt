@@ -17,11 +17,11 @@ use watch_reports::{ReportOptions, ReportPart, WatchForm};
 /// What was heard of a bus, and how it is reported.
 #[derive(Drop)]
 pub struct BusReport {
-    heard: Heard,
+    pub(crate) heard: Heard,
     form: WatchForm,
     limits: Limits,
     bus: String,
-    units: UnitTexts,
+    pub(crate) units: UnitTexts,
     texts: Texts,
 }
 

@@ -12,7 +12,7 @@ use std::sync::Wait;
 use std::thread::Threads;
 use tester_command::{TesterFiles, TesterWords, look_at_tester_words};
 
-/// Puts a station on the bus that standard input tells of.
+/// Puts a station on the bus that standard input tells of; with a table of the units, where standard error is a terminal.
 #[inline(never)]
 pub(crate) fn tester<
     R: Runtime
@@ -24,7 +24,13 @@ pub(crate) fn tester<
         + Input<Reader = StdinLock<'static>>
         + Files<File = File>
         + 'static,
->(rt: &R, host: &HostRuntime, words: TesterArguments<'_>, orders: &[&str]) -> Result<(), Failure> {
+>(
+    rt: &R,
+    host: &HostRuntime,
+    words: TesterArguments<'_>,
+    orders: &[&str],
+    is_terminal: bool,
+) -> Result<(), Failure> {
     look_at_tester_words(rt.alloc(), &words, orders)?;
     let report = match words.report {
         Some(path) => Some(PutFile::new(host, path)?),

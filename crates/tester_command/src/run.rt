@@ -35,8 +35,9 @@ pub struct TesterFiles<I, O, F, T> {
 }
 
 /// Puts a station on the bus whose lines a file gives, carries out the orders that the words spell, and those of the lines of a file,
-/// where there is one, and tells on `errors` what came of each, on a terminal with a table of the units below. Without such a file the run ends behind the last order, where there is
-/// one; else with the lines of the bus. Where a report is wanted, it is put as often as that is.
+/// where there is one, and tells on `errors` what came of each, on a terminal with a table of the units below. Without such a file the
+/// run ends behind the last order, where there is one; else with the lines of the bus. Where a report is wanted, it is put as often as
+/// that is.
 ///
 /// # Errors
 /// - `CommandLine`: the words are none of it; nothing is read.

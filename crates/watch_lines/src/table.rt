@@ -61,7 +61,7 @@ struct TableRow<'a> {
 /// The line of the NAME at this place, where it holds an address.
 fn row_at<'a>(watch: &'a Watch, place: usize, units: &'a UnitTexts) -> Option<TableRow<'a>> {
     let name = watch.name_at(place)?;
-    let address = watch.row(name)?.address?;
+    let address = address_of(watch, name)?;
     Some(TableRow {
         address,
         name,
@@ -69,6 +69,14 @@ fn row_at<'a>(watch: &'a Watch, place: usize, units: &'a UnitTexts) -> Option<Ta
         newest: watch.runs(Who::Named(name), Kind::Dm1).last(),
         units,
     })
+}
+
+/// The address that a NAME holds, if it holds one.
+fn address_of(watch: &Watch, name: Name) -> Option<u8> {
+    match watch.row(name) {
+        Some(row) => row.address,
+        None => None,
+    }
 }
 
 /// How many seconds before the newest line a message of a unit was heard, where one was and lines have times.

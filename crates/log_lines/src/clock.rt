@@ -40,6 +40,20 @@ impl LineClock {
         if self.times.is_counted() {
             return Ok(true);
         }
+        self.decide(errors, number, line, said)
+    }
+
+    /// Takes a line before which it is not known whether times count.
+    #[inline(never)]
+    fn decide<E: Write>(
+        &mut self,
+        errors: &mut E,
+        number: u64,
+        line: &[u8],
+        said: &Line<'_>,
+    ) -> io::Result<bool>
+        ensures { IfOk result (λ counts. counts ≡ is_counted self.new.times) }
+    {
         let Some(time) = said.time() else {
             self.note_untimed(said);
             return Ok(false);

@@ -20,6 +20,7 @@ pub fn read_input<R: Read>(alloc: Global, reader: &mut R) -> Result<Vec<u8>, Fau
     ensures within { IfOk result (λ v. length v.items ≤ input_limit) }
     ensures whole { IfOk result (λ v. IfSome (R.remaining reader.old) (λ bytes. v.items ≡ bytes)) }
     ensures too_long { result ≡ Err Fault.InputTooLong → IfSome (R.remaining reader.old) (λ bytes. input_limit < length bytes) }
+    ensures fault { IfErr result (λ f. (f ≡ Fault.Read) ⊎ (f ≡ Fault.InputTooLong) ⊎ (f ≡ Fault.Memory)) }
 {
     let mut bytes = Vec::new(alloc);
     if let Err(error) = read_most(reader, &mut bytes) {
@@ -60,6 +61,7 @@ fn fault_of(error: io::Error) -> Fault
 pub fn read_text<R: Read>(alloc: Global, reader: &mut R) -> Result<String, Fault>
     ensures text { IfOk result (λ text. IfSome (R.remaining reader.old) (λ bytes. text.bytes.items ≡ bytes)) }
     ensures too_long { result ≡ Err Fault.InputTooLong → IfSome (R.remaining reader.old) (λ bytes. input_limit < length bytes) }
+    ensures fault { IfErr result (λ f. (f ≡ Fault.Read) ⊎ (f ≡ Fault.InputTooLong) ⊎ (f ≡ Fault.Memory) ⊎ (f ≡ Fault.NotUtf8)) }
 {
     let bytes = read_input(alloc, reader)?;
     match String::from_utf8(bytes) {

@@ -21,10 +21,16 @@ pub(crate) fn wanted_of<'a>(options: &RunOptions<'a>) -> Wanted<'a> {
 /// How many frames the watches have heard, as long as it was told of none.
 pub(crate) fn frames_before(absence: &Absence, buses: &Buses) -> Option<u64> {
     if absence.is_open() {
-        Some(buses.counts().frames)
+        Some(frames_of(buses))
     } else {
         None
     }
+}
+
+/// How many frames the watches have heard.
+#[inline(never)]
+fn frames_of(buses: &Buses) -> u64 {
+    buses.counts().frames
 }
 
 /// Takes a line that the watches have heard, before which they had heard so many frames.
@@ -37,7 +43,7 @@ pub(crate) fn note_line(
     before: u64,
     said: &Line<'_>,
 ) -> Result<(), LogFault> {
-    let is_heard = buses.counts().frames != before;
+    let is_heard = frames_of(buses) != before;
     absence.take(said, fate_of(buses, is_heard, said))
 }
 

@@ -103,9 +103,14 @@ impl<'a, W: Write, E: Write> LineWatch<'a, W, E> {
     fn hear_timed(&mut self, number: u64, text: &[u8], said: &Line<'_>) -> Result<(), LogFault> {
         match self.clock.counts(self.errors, number, text, said) {
             Ok(true) => self.hear(number, said),
-            Ok(false) => self.hear(number, &said.untimed()),
+            Ok(false) => self.hear_untimed(number, said),
             Err(error) => Err(LogFault::of_write(error)),
         }
+    }
+
+    #[inline(never)]
+    fn hear_untimed(&mut self, number: u64, said: &Line<'_>) -> Result<(), LogFault> {
+        self.hear(number, &said.untimed())
     }
 
     /// Has the watches hear a line, and writes what it changes.

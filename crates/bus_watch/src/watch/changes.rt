@@ -60,13 +60,33 @@ impl Watch {
         ensures identified { self.new.identified ≡ self.old.identified }
         ensures err { OnErr result (self.new ≡ self.old) }
     {
+        if let ParameterGroup::Other = *group {
+            self.lists.pass(time);
+            return Ok(nothing());
+        }
+        self.hear_group(alloc, group, time)
+    }
+
+    /// Has the listener take what one frame says. (What it takes up on the stack stands there for such a frame alone.)
+    #[inline(never)]
+    fn hear_group(
+        &mut self,
+        alloc: Global,
+        group: &ParameterGroup<'_>,
+        time: Option<Time>,
+    ) -> Result<Changes, AllocError>
+        requires { IsLawfulGroup group.now }
+        ensures takes { OnOk result ((f : FrameValue) → group_of f ≡ said group.now
+            → Takes self.old self.new (frame_reading time (half_in self.old.listener) self.old.followed f) time (followed_with time (said group.now) self.old.followed)) }
+        ensures tells { IfOk result (λ c. (f : FrameValue) → group_of f ≡ said group.now
+            → Tells self.old self.new (frame_reading time (half_in self.old.listener) self.old.followed f) c) }
+        ensures identified { self.new.identified ≡ self.old.identified }
+        ensures err { OnErr result (self.new ≡ self.old) }
+    {
         let at = time;
         let now = micros(at);
         let before = self.lists.now();
         self.lists.pass(time);
-        if let ParameterGroup::Other = *group {
-            return Ok(nothing());
-        }
         match self.ear.take_group_at(alloc, now, group, &mut self.lists) {
             Ok(heard) => {
                 self.note_pair(group);

@@ -6,7 +6,7 @@ ghost use Rattle.bus_watch.specs.Identified.{IdentifiedValue};
 ghost use Rattle.bus_watch.specs.IdentifiedSaid.{identified_said};
 ghost use Rattle.bus_watch.specs.Runs.{time_after};
 ghost use Rattle.bus_watch.specs.WatchValue.{Takes, TakesGroup, Tells, TellsGroup};
-ghost use Rattle.can_frame.specs.Fields.{source_of};
+ghost use Rattle.can_frame.specs.Fields.{pgn_of, source_of};
 ghost use Rattle.dm_words.specs.Identification.{identification_of};
 ghost use Rattle.listener.specs.ListenerValue.{who_in};
 ghost use Rattle.parameter_group.specs.Group as groups;
@@ -186,7 +186,6 @@ impl Watch {
     }
 
     /// Takes a frame that says nothing to the listener. It may tell an identification.
-    #[tactic(auto, using(crate::proofs::IdentifiedRead::group_aside, crate::proofs::IdentifiedRead::group_told_aside))]
     fn take_other(
         &mut self,
         alloc: Global,
@@ -201,9 +200,31 @@ impl Watch {
             (who_in self.old.listener (source_of frame.now.id))) frame.now groups.Other self.old.identified) }
         ensures err { OnErr result (self.new ≡ self.old) }
     {
-        let Some(what) = Identification::of(frame.id().pgn().number()) else {
-            return self.take_group(alloc, group, time);
-        };
+        match Identification::of(frame.id().pgn().number()) {
+            Some(what) => self.take_text(alloc, frame, group, time, what),
+            None => self.take_group(alloc, group, time),
+        }
+    }
+
+    /// Takes a frame that tells an identification. (What it takes up on the stack stands there for such a frame alone.)
+    #[inline(never)]
+    #[tactic(auto, using(crate::proofs::IdentifiedRead::group_aside, crate::proofs::IdentifiedRead::group_told_aside))]
+    fn take_text(
+        &mut self,
+        alloc: Global,
+        frame: &Frame,
+        group: &ParameterGroup<'_>,
+        time: Option<Time>,
+        what: Identification,
+    ) -> Result<Changes, AllocError>
+        requires other { said group.now ≡ groups.Other }
+        requires what { identification_of (pgn_of frame.now.id) ≡ Some what }
+        ensures takes { OnOk result (TakesGroup self.old self.new (said group.now) time) }
+        ensures tells { IfOk result (λ c. TellsGroup self.old self.new (said group.now) time c) }
+        ensures identified { OnOk result (self.new.identified ≡ identified.identified_with (identified.coming self.old.lists.selection self.old.lists.time time self.old.followed
+            (who_in self.old.listener (source_of frame.now.id))) frame.now groups.Other self.old.identified) }
+        ensures err { OnErr result (self.new ≡ self.old) }
+    {
         let source = frame.id().source();
         let who = self.who_at(source);
         let (whose, at) = (who, time);

@@ -111,7 +111,7 @@ const OPTIONS: [CommandOption<'static>; 17] = [
     CommandOption {
         name: "every",
         value: "S",
-        help: "Seconds from a report that is no page to the next, 1 to 86400; else it is written at the end",
+        help: "Seconds from a report to the next, 1 to 86400; else it is written at the end",
         given: Given::Once,
     },
     CommandOption {

@@ -1,6 +1,7 @@
 //! `tester`: its files are opened here.
 
 use crate::report_file::PutFile;
+use crate::terminal::Terminal;
 use command_line::{Errors, open};
 use program_io::{Failure, TesterArguments};
 use std::fs::{File, OpenOptions};
@@ -11,7 +12,7 @@ use std::sync::Wait;
 use std::thread::Threads;
 use tester_command::{TesterFiles, TesterWords, look_at_tester_words};
 
-/// Puts a station on the bus that standard input tells of.
+/// Puts a station on the bus that standard input tells of; with a table of the units, where standard error is a terminal.
 #[inline(never)]
 pub(crate) fn tester<
     R: Runtime
@@ -23,7 +24,13 @@ pub(crate) fn tester<
         + Input<Reader = StdinLock<'static>>
         + Files<File = File>
         + 'static,
->(rt: &R, host: &HostRuntime, words: TesterArguments<'_>, orders: &[&str]) -> Result<(), Failure> {
+>(
+    rt: &R,
+    host: &HostRuntime,
+    words: TesterArguments<'_>,
+    orders: &[&str],
+    is_terminal: bool,
+) -> Result<(), Failure> {
     look_at_tester_words(rt.alloc(), &words, orders)?;
     let report = match words.report {
         Some(path) => Some(PutFile::new(host, path)?),
@@ -37,6 +44,11 @@ pub(crate) fn tester<
         bus: boxed_reader(rt)?,
         control,
         report,
+        terminal: if is_terminal {
+            Some(Terminal::new(rt))
+        } else {
+            None
+        },
     };
     let words = TesterWords {
         options: &words,

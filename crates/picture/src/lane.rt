@@ -75,6 +75,13 @@ impl MessageMarks {
         }
     }
 
+    fn copy(&self, alloc: Global) -> Result<MessageMarks, AllocError> {
+        Ok(MessageMarks {
+            ended: self.ended.copy(alloc)?,
+            newest: self.newest,
+        })
+    }
+
     /// The newest messages end, and others begin at this moment.
     fn begin(&mut self, brief: Brief, moment: u64, end: Option<RunEnd>) -> Result<(), AllocError> {
         self.end(moment, end)?;
@@ -123,6 +130,19 @@ impl UnitLane {
             dm2: MessageMarks::new(alloc, OTHER_SPANS),
             dm6: MessageMarks::new(alloc, OTHER_SPANS),
         }
+    }
+
+    /// The same lane once more.
+    pub(crate) fn copy(&self, alloc: Global) -> Result<UnitLane, AllocError> {
+        Ok(UnitLane {
+            unit: self.unit,
+            addresses: self.addresses.copy(alloc)?,
+            holding: self.holding,
+            is_past: self.is_past,
+            dm1: self.dm1.copy(alloc)?,
+            dm2: self.dm2.copy(alloc)?,
+            dm6: self.dm6.copy(alloc)?,
+        })
     }
 
     /// Whose it is.

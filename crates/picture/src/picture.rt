@@ -195,6 +195,24 @@ impl Picture {
         }
     }
 
+    /// The lanes as they are, which `finish` and `end_messages` change: for a picture that goes on once it was drawn.
+    ///
+    /// # Errors
+    /// Memory was refused.
+    pub fn copy_lanes(&self) -> Result<Vec<UnitLane>, AllocError> {
+        let mut lanes = Vec::new(self.alloc);
+        for lane in self.lanes.iter() {
+            lanes.reserve(1)?;
+            lanes.push_reserved(lane.copy(self.alloc)?);
+        }
+        Ok(lanes)
+    }
+
+    /// The lanes are these again.
+    pub fn put_lanes(&mut self, lanes: Vec<UnitLane>) {
+        self.lanes = lanes;
+    }
+
     /// The log has ended: addresses that are held were held until now. How the newest messages of each lane ended is said by
     /// `end_messages`.
     ///

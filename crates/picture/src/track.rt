@@ -1,4 +1,4 @@
-ghost use Rattle.std.specs.Prelude.{◌≡◌, ◌<◌, ◌≤◌, ◌∷◌, [], ◌++◌, List, length, OnOk, OnErr};
+ghost use Rattle.std.specs.Prelude.{◌≡◌, ◌<◌, ◌≤◌, ◌∷◌, [], ◌++◌, List, length, IfOk, OnOk, OnErr};
 ghost use Rattle.picture.specs.Spans.{AreDrawnAs};
 ghost use Rattle.picture.specs.Tracks.{Keeps};
 ghost use Rattle.picture.specs.declared.span.Span.{Span as ASpan};
@@ -36,6 +36,16 @@ impl Track {
             spans: Vec::new(alloc),
             most,
         }
+    }
+
+    /// The same track once more.
+    pub(crate) fn copy(&self, alloc: Global) -> Result<Track, AllocError>
+        ensures { IfOk result (λ t. t ≡ self.now) }
+    {
+        let mut spans = Vec::new(alloc);
+        spans.extend_from_slice(self.spans.as_slice())?;
+        let most = self.most;
+        Ok(Track { spans, most })
     }
 
     /// The spans that are kept.

@@ -14,6 +14,7 @@ mod queue;
 mod report;
 mod reported;
 mod run;
+mod screen;
 mod teller;
 mod turns;
 mod wanted;

@@ -1,5 +1,6 @@
-//! Lines that are told beside objects of JSON, as such objects.
+//! Lines that are told beside objects of JSON, as such objects; and those on a terminal, with a table below them.
 
+use crate::screen::Screen;
 use std::io::Write;
 use std::{fmt, io};
 
@@ -14,20 +15,31 @@ enum Within {
     Text,
 }
 
+/// How lines are told.
+#[derive(Drop)]
+pub(crate) enum Telling<T> {
+    /// As they are.
+    Lines,
+    /// As objects.
+    Objects,
+    /// As they are, above a table.
+    Screen(Screen<T>),
+}
+
 /// A writer of lines: where objects are asked for, a line that is none becomes `{"event":"notice","text":..}`.
 #[derive(Drop)]
-pub(crate) struct Notices<'a, W> {
+pub(crate) struct Notices<'a, W, T> {
     writer: &'a mut W,
-    json: bool,
+    telling: Telling<T>,
     within: Within,
 }
 
-impl<'a, W: Write> Notices<'a, W> {
+impl<'a, W: Write, T: Write> Notices<'a, W, T> {
     /// To this writer.
-    pub(crate) fn new(writer: &'a mut W, json: bool) -> Notices<'a, W> {
+    pub(crate) fn new(writer: &'a mut W, telling: Telling<T>) -> Notices<'a, W, T> {
         Notices {
             writer,
-            json,
+            telling,
             within: Within::Start,
         }
     }
@@ -93,12 +105,12 @@ impl fmt::Display for Quoted<'_> {
     }
 }
 
-impl<W: Write> Write for Notices<'_, W> {
+impl<W: Write, T: Write> Write for Notices<'_, W, T> {
     fn write(&mut self, buf: &[u8]) -> io::Result<usize> {
-        if self.json {
-            self.put_lines(buf)?;
-        } else {
-            self.writer.write_all(buf)?;
+        match &mut self.telling {
+            Telling::Lines => self.writer.write_all(buf)?,
+            Telling::Objects => self.put_lines(buf)?,
+            Telling::Screen(screen) => screen.put(self.writer, buf)?,
         }
         Ok(buf.len())
     }

@@ -1,10 +1,12 @@
 //! The report of what the bus of a tester said.
 ghost use Rattle.std.specs.Prelude.{◌≤◌};
 
+use crate::screen::TABLE_MARK;
 use live_lines::HeardFrame;
 use log_lines::{LinesEnd, LogFault};
 use std::alloc::Global;
 use std::io;
+use std::io::Write;
 use watch_lines::BusReport;
 
 /// Where reports are put: each in whole, so that nobody reads half of one.
@@ -16,12 +18,18 @@ pub trait ReportFile: Drop {
     fn put(&mut self, part: Option<u64>, report: &[u8]) -> io::Result<()>;
 }
 
+/// How long it is from one table to the next, in microseconds.
+const DRAWN_EACH: u64 = 250_000;
+
 /// The report of a bus, and when it is written.
 #[derive(Drop)]
 pub(crate) struct Reporter<F> {
     alloc: Global,
     report: BusReport,
-    file: F,
+    /// Where it is put, if anywhere.
+    file: Option<F>,
+    /// When the table is drawn the next time, where it is.
+    table_due: Option<u64>,
     /// How long it is from a report to the next, in microseconds; none: it is written at the end alone.
     every: Option<u64>,
     due: Option<u64>,
@@ -34,17 +42,19 @@ pub(crate) struct Reporter<F> {
 }
 
 impl<F: ReportFile> Reporter<F> {
-    /// One who has heard nothing.
+    /// One who has heard nothing, and draws a table or none.
     pub(crate) fn new(
         alloc: Global,
         report: BusReport,
-        file: F,
+        file: Option<F>,
         every: Option<u64>,
+        has_table: bool,
     ) -> Reporter<F> {
         Reporter {
             alloc,
             report,
             file,
+            table_due: if has_table { Some(0) } else { None },
             every,
             due: None,
             parts: 0,
@@ -73,8 +83,38 @@ impl<F: ReportFile> Reporter<F> {
         }
     }
 
+    /// Draws the table, where it is due at this time, and writes the report, where that is.
+    pub(crate) fn step<N: Write>(&mut self, now: u64, notes: &mut N) {
+        match self.table_due {
+            Some(due) if due <= now => {
+                self.table_due = Some(now.saturating_add(DRAWN_EACH));
+                self.draw(notes);
+            }
+            _ => {}
+        }
+        self.step_report(now);
+    }
+
+    /// Draws the table, where there is one.
+    pub(crate) fn draw_last<N: Write>(&mut self, notes: &mut N) {
+        if self.table_due.is_some() {
+            self.draw(notes);
+        }
+    }
+
+    /// Draws the table. (Where memory is refused, the one before stays.)
+    fn draw<N: Write>(&self, notes: &mut N) {
+        let mut table = Vec::new(self.alloc);
+        if table.push(TABLE_MARK).is_ok()
+            && self.report.write_table(&mut table).is_ok()
+            && table.push(TABLE_MARK).is_ok()
+        {
+            let _ = notes.write_all(table.as_slice());
+        }
+    }
+
     /// Writes the report, where it is due at this time.
-    pub(crate) fn step(&mut self, now: u64) {
+    fn step_report(&mut self, now: u64) {
         let Some(every) = self.every else {
             return;
         };
@@ -93,15 +133,19 @@ impl<F: ReportFile> Reporter<F> {
     pub(crate) fn next(&self, now: u64) -> u64
         ensures { now ≤ result }
     {
+        let table = self.table_due.unwrap_or(u64::MAX).max(now);
         match (self.every, self.due) {
-            (Some(_), Some(due)) => due.max(now),
+            (Some(_), Some(due)) => due.max(now).min(table),
             (Some(_), None) => now,
-            (None, _) => u64::MAX,
+            (None, _) => table,
         }
     }
 
     /// Writes the report of what was heard so far.
     pub(crate) fn write(&mut self) {
+        if self.file.is_none() {
+            return;
+        }
         let mut text = Vec::new(self.alloc);
         match self.report.write(self.alloc, &mut text) {
             Ok(()) => self.put(None, text.as_slice()),
@@ -114,7 +158,7 @@ impl<F: ReportFile> Reporter<F> {
     pub(crate) fn ended(&self, lines: LinesEnd) -> LinesEnd {
         LinesEnd {
             fault: lines.fault.or(self.fault),
-            is_unread: lines.is_unread || self.parts > 0,
+            is_unread: lines.is_unread || self.parts > 0 && self.file.is_some(),
             ..lines
         }
     }
@@ -128,12 +172,16 @@ impl<F: ReportFile> Reporter<F> {
             self.put(Some(self.parts), text.as_slice());
         }
         self.note_heard(ended);
-        self.parts == 1
+        self.parts == 1 && self.file.is_some()
     }
 
     /// Puts a report.
     fn put(&mut self, part: Option<u64>, text: &[u8]) {
-        if let Err(error) = self.file.put(part, text) {
+        let ended = match &mut self.file {
+            Some(file) => file.put(part, text),
+            None => Ok(()),
+        };
+        if let Err(error) = ended {
             self.note(LogFault::of_write(error));
         }
     }

@@ -45,7 +45,7 @@ impl<F: ReportFile> OnBus for Reported<F> {
 
     fn step<N: Write>(&mut self, alloc: Global, now: u64, notes: &mut N) -> Option<Frame> {
         if let Some(reporter) = &mut self.reporter {
-            reporter.step(now);
+            reporter.step(now, notes);
         }
         self.tester.step(alloc, now, notes)
     }
@@ -75,6 +75,7 @@ impl<F: ReportFile> OnBus for Reported<F> {
     fn close<N: Write>(&mut self, now: u64, notes: &mut N) {
         self.tester.close(now, notes);
         if let Some(reporter) = &mut self.reporter {
+            reporter.draw_last(notes);
             reporter.write();
         }
     }

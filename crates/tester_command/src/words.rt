@@ -22,8 +22,8 @@ pub(crate) struct TesterWays<'a> {
     pub(crate) lines: BusWays<'a>,
     /// Whether it tells in objects of JSON.
     pub(crate) json: bool,
-    /// How it reports what the bus said, where that is wanted.
-    pub(crate) report: Option<ReportWays>,
+    /// How it reports what the bus said.
+    pub(crate) report: ReportWays,
     /// Of how many NAMEs is known at once.
     pub(crate) most: usize,
     /// Whether it may clear all units, and command one to an address that is held.
@@ -195,21 +195,27 @@ fn is_json(word: Option<&str>) -> Result<bool, ArgumentError<'_>> {
 
 const FORMS: &str = "text or json, or with a --report whose ending says nothing csv or html";
 
-/// How what the bus said is reported, where a file is named for it. CSV and pages are for such a file alone.
+/// How what the bus said is reported. CSV and pages are for a file alone.
 fn report_of<'a>(
     words: &TesterArguments<'a>,
     most: usize,
-) -> Result<Option<ReportWays>, ArgumentError<'a>> {
-    let every = every_of(words.every)?;
-    let keep = keep_of(words.keep)?;
+) -> Result<ReportWays, ArgumentError<'a>> {
+    let mut ways = ReportWays {
+        form: WatchForm::Text,
+        limits: Limits {
+            most,
+            keep: keep_of(words.keep)?,
+        },
+        every: every_of(words.every)?,
+    };
     let Some(path) = words.report else {
         return match (words.format, words.every) {
             (Some(word @ ("csv" | "html")), _) => Err(slip("format <FORM>", word, FORMS)),
             (_, Some(word)) => Err(slip("every <S>", word, "with a --report")),
-            _ => Ok(None),
+            _ => Ok(ways),
         };
     };
-    let form = match (form_of_ending(path), words.format) {
+    ways.form = match (form_of_ending(path), words.format) {
         (Some(_), Some(word @ ("csv" | "html"))) => return Err(slip("format <FORM>", word, FORMS)),
         (Some(form), _) => form,
         (None, Some("json")) => WatchForm::Json,
@@ -217,14 +223,7 @@ fn report_of<'a>(
         (None, Some("html")) => WatchForm::Html,
         (None, _) => WatchForm::Text,
     };
-    if let (WatchForm::Html, Some(word)) = (form, words.every) {
-        return Err(slip("every <S>", word, "for a report that is no page"));
-    }
-    Ok(Some(ReportWays {
-        form,
-        limits: Limits { most, keep },
-        every,
-    }))
+    Ok(ways)
 }
 
 /// The form that the ending of a path says, if it says one.

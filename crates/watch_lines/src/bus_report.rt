@@ -17,11 +17,11 @@ use watch_reports::{ReportOptions, ReportPart, WatchForm};
 /// What was heard of a bus, and how it is reported.
 #[derive(Drop)]
 pub struct BusReport {
-    heard: Heard,
+    pub(crate) heard: Heard,
     form: WatchForm,
     limits: Limits,
     bus: String,
-    units: UnitTexts,
+    pub(crate) units: UnitTexts,
     texts: Texts,
 }
 
@@ -119,7 +119,7 @@ impl BusReport {
         self.heard.start_over(alloc)
     }
 
-    /// Writes the report of what was heard so far, or since it was begun anew, and goes on. A page is the last.
+    /// Writes the report of what was heard so far, or since it was begun anew, and goes on.
     ///
     /// # Errors
     /// - `Write`: a write failed; how much was written by then is not told. - `Memory`: memory was refused.
@@ -137,8 +137,20 @@ impl BusReport {
         self.heard.write_report(writer, &reports, part, None)
     }
 
-    /// Writes the page.
+    /// Writes the page, and goes on.
     fn write_page<W: Write>(&mut self, alloc: Global, writer: &mut W) -> Result<(), LogFault> {
+        let lanes = self.heard.kept.copy_lanes()?;
+        let written = self.write_whole_page(alloc, writer);
+        self.heard.kept.put_lanes(lanes);
+        written
+    }
+
+    /// Writes the page as that of a bus of which no more is heard.
+    fn write_whole_page<W: Write>(
+        &mut self,
+        alloc: Global,
+        writer: &mut W,
+    ) -> Result<(), LogFault> {
         let bus = self.bus.as_str();
         let options = RunOptions {
             reports: reports_of(self.form, &self.units, &self.texts),

@@ -5,7 +5,7 @@ use candump_line::{Line, Time};
 use dm_messages::Kind;
 use log_lines::LogFault;
 use picture::{
-    Brief, DrawnUnit, EverInLog, Occurrence, Picture, RunEnd, SignalsInLog, ValuesInLog,
+    Brief, DrawnUnit, EverInLog, Occurrence, Picture, RunEnd, SignalsInLog, UnitLane, ValuesInLog,
 };
 use signal_values::Signals;
 use std::alloc::{AllocError, Global};
@@ -152,6 +152,24 @@ impl PageHistory {
             end_messages(picture, buses, place)?;
         }
         Ok(())
+    }
+
+    /// The lanes of the picture, where one is kept, as they are.
+    ///
+    /// # Errors
+    /// Memory was refused.
+    pub(crate) fn copy_lanes(&self) -> Result<Option<Vec<UnitLane>>, AllocError> {
+        match &self.picture {
+            Some(picture) => Ok(Some(picture.copy_lanes()?)),
+            None => Ok(None),
+        }
+    }
+
+    /// The lanes of the picture are these again.
+    pub(crate) fn put_lanes(&mut self, lanes: Option<Vec<UnitLane>>) {
+        if let (Some(picture), Some(lanes)) = (&mut self.picture, lanes) {
+            picture.put_lanes(lanes);
+        }
     }
 
     /// All lines are read.

@@ -13,6 +13,7 @@ mod options;
 mod over;
 mod page;
 mod run;
+mod table;
 mod units;
 mod values;
 

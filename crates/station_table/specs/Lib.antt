@@ -3,6 +3,7 @@ pub mod Listing
 pub mod Orders
 pub mod Reactions
 pub mod Refusals
+pub mod Sessions
 pub mod StandsFor
 pub mod StationValue
 pub mod Steps

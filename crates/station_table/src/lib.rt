@@ -8,6 +8,7 @@ mod origin;
 mod outcome;
 mod reaction;
 mod replies;
+mod session;
 mod station;
 
 pub use bus_model::{Change, Displaced};
@@ -16,4 +17,5 @@ pub use error::StationError;
 pub use laws::lists_are_what_was_heard;
 pub use outcome::Outcome;
 pub use reaction::{Ask, Reaction};
+pub use session::Session;
 pub use station::Station;

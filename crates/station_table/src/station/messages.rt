@@ -1,4 +1,4 @@
-ghost use Rattle.std.specs.Prelude.{◌≡◌, ◌≤◌, nat_lt, if◌then◌else◌, slice_set, Some, IfOk, OnOk, OnErr, IsOkUnless};
+ghost use Rattle.std.specs.Prelude.{◌≡◌, ◌≤◌, ◌<◌, nat_lt, IfSome, if◌then◌else◌, slice_set, Some, IfOk, OnOk, OnErr, IsOkUnless};
 ghost use Rattle.bus_model.specs.Changed.{announced_change, ended_change};
 ghost use Rattle.bus_model.specs.Heard as heard;
 ghost use Rattle.entry_lists.specs.Entries.{HasPut};
@@ -14,13 +14,14 @@ use crate::origin::{Origin, drop_kind};
 use crate::outcome::Outcome;
 use crate::reaction::Reaction;
 use crate::replies::{at_once, reply};
+use crate::session::Session;
 use crate::station::Station;
 use bus_model::Change;
 use can_frame::{NULL_ADDRESS, Pgn};
 use dm_messages::Kind;
 use entry_lists::{Lists, NewEntry, kind_of};
 use std::alloc::Global;
-use transport::{Control, Took, control_frame};
+use transport::{Control, Took, control_frame, packets};
 
 /// What a request to send announces.
 #[derive(Clone, Copy)]
@@ -34,6 +35,7 @@ pub(super) struct Announced {
 impl Station {
     ghost use Rattle.station_table.specs.Changing.{group_changes, read_change};
     ghost use Rattle.station_table.specs.Listing.{entry_of_ended, entry_of_read, group_entry};
+    ghost use Rattle.station_table.specs.Sessions.{session_of};
     ghost use Rattle.station_table.specs.Steps.{after_group, origin_of, packets_at_once, with_broadcast_packet, with_read, with_session, with_session_packet};
 
     /// What a message from this address shows that ended goes to the lists: an entry under its owner where it shows something, else
@@ -353,6 +355,27 @@ impl Station {
         self.keep(alloc, source, ended, lists, change)?;
         self.sessions.take(source, bytes, Took::Whole);
         Ok(())
+    }
+
+    /// The session with the station from this source, where packets of one are missing.
+    pub fn session(&self, source: u8) -> Option<Session>
+        ensures value { result ≡ session_of self.now source }
+        ensures positive { IfSome result (λ j. 0 < j.at_once) }
+    {
+        let session = self.sessions.get(source)?;
+        Some(Session {
+            kind: session.tag().kind(),
+            packets: packets(session.size()),
+            taken: session.taken(),
+            at_once: at_once(self.grant, self.most[usize::from(source)]),
+        })
+    }
+
+    /// What a packet from this source to the station is to the session from there; none where there is none. Nothing changes.
+    pub fn answer(&self, source: u8, packet: &[u8]) -> Option<Took>
+        ensures { result ≡ answer_to packet.now (at self.now.sessions source) }
+    {
+        self.sessions.answer(source, packet)
     }
 
     /// What is answered to a packet of a session, which was answered so.

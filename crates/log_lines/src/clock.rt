@@ -56,7 +56,7 @@ impl LineClock {
     {
         let Some(time) = said.time() else {
             self.note_untimed(said);
-            return Ok(false);
+            return Ok(self.times.is_counted());
         };
         let was_passed = self.times.is_passed();
         self.times.take(line, time);

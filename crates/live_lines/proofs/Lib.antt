@@ -1,4 +1,5 @@
 pub mod Crossing
 mod FaultLemmas
+mod OneMore
 mod OwnLemmas
 mod Waking

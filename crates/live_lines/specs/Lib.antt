@@ -1,4 +1,5 @@
 pub mod Beginnings
 pub mod Faults
+pub mod Hearing
 pub mod Own
 pub mod Withheld

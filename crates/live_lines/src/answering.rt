@@ -1,5 +1,5 @@
 //! What a unit sends where it is asked for it.
-ghost use Rattle.std.specs.Prelude.{◌≡◌, ◌≢◌, ◌≤◌, ◌↔◌, IfSome, IsTrue, None, false, length, map};
+ghost use Rattle.std.specs.Prelude.{[], ◌≡◌, ◌≢◌, ◌≤◌, ◌↔◌, IfSome, IsTrue, None, false, length, map};
 ghost use Rattle.std.specs.List.{All};
 ghost use Rattle.can_frame.specs.Fields.{source_of};
 ghost use Rattle.vehicle.specs.Frames.{answer_frame, last_of_answer};
@@ -140,7 +140,8 @@ pub(crate) fn asked_of(frame: &Frame, held: Option<u8>) -> Option<Request>
 
 /// Whether a group is one of these.
 pub(crate) fn is_listed(all: &[Answering], pgn: Pgn) -> bool
-    ensures { result ≡ false → All (λ a. a.line.pgn ≢ pgn) all.now }
+    ensures none { result ≡ false → All (λ a. a.line.pgn ≢ pgn) all.now }
+    ensures empty { all.now ≡ [] → result ≡ false }
 {
     all.iter().any(|one| one.line.pgn == pgn.number())
 }

@@ -1,9 +1,10 @@
-ghost use Rattle.std.specs.Prelude.{◌≡◌, ◌≤◌, ◌||◌, None, Some, false, true};
+ghost use Rattle.std.specs.Prelude.{IfSome, length, ◌≡◌, ◌<◌, ◌≤◌, ◌||◌, None, Some, false, true};
 ghost use Rattle.can_frame.specs.declared.address.TheConstants.{GREATEST_ADDRESS};
+ghost use Rattle.live_lines.specs.Hearing.{AreFaultless, HaveBeenTold, IsFromOne};
 ghost use Rattle.log_lines.specs.declared.fault.LogFault.TheVariants.{Memory};
 
 use crate::faults::write_violation;
-use crate::member::{Groups, Member};
+use crate::member::{Groups, Member, Taken};
 use can_frame::Frame;
 use dm_messages::Kind;
 use fault_memory::{FaultChange, FaultError};
@@ -62,61 +63,38 @@ impl Fleet {
     /// One that claims its address again for it is told.
     pub fn hear<N: Write>(&mut self, alloc: Global, frame: &Frame, now: u64, notes: &mut N)
         requires { Unit {0} }
+        ensures each { HaveBeenTold frame.now self.old.members.items self.new.members.items (λ m. (⟦<dyn Unit as Unit>⟧ m.unit.unit.vtable).memory_of m.unit.unit.value) }
     {
-        let mut refused = false;
-        let mut woken = false;
-        let acceptance = Acceptance::of(frame);
-        for (place, member) in self.members.iter_mut().enumerate() {
-            if member.defend(frame, now) {
-                woken = true;
-                let _ = write_violation(notes, place, frame);
-            }
-            if !member.pass_over(&acceptance) {
-                woken = true;
-                refused = member.hear(alloc, frame, now) || refused;
-            }
-        }
-        if woken {
+        let taken = hear_all(self.members.as_mut_slice(), alloc, frame, now, notes);
+        if taken.is_woken {
             self.idle_until = 0;
         }
-        self.note_short(refused);
+        self.note_short(taken.is_refused);
     }
 
     /// The frame that goes at this time, if one does: that of the first unit, from the one whose turn it is on, that has one. Units
     /// do first of their own accord what is due; one that is refused memory for it tries again later. Each fault on purpose is told.
     pub fn step<N: Write>(&mut self, alloc: Global, now: u64, notes: &mut N) -> Option<Frame>
         requires { Unit {0} }
+        ensures source { AreFaultless self.old.members.items → IfSome result (λ f. IsFromOne f self.new.members.items) }
     {
         if now < self.idle_until {
             return None;
         }
-        let mut refused = false;
-        let mut found = None;
-        let count = self.members.len();
-        for offset in 0..count {
-            let place = place_after(self.turn, offset, count);
-            let Some(member) = self.members.get_mut(place) else {
-                continue;
-            };
-            let (short, frame) = member.step(alloc, place, now, notes);
-            refused = refused || short;
-            found = frame;
-            if found.is_some() {
-                self.turn = place_after(place, 1, count);
-                break;
-            }
-        }
-        self.note_short(refused);
-        self.idle_until = match found {
+        let members = self.members.as_mut_slice();
+        let stepped = step_from(members, alloc, self.turn, now, notes);
+        self.turn = stepped.turn;
+        self.note_short(stepped.is_refused);
+        self.idle_until = match stepped.frame {
             None => self.soonest(now),
             Some(_) => 0,
         };
-        found
+        stepped.frame
     }
 
     /// Keeps that a unit was refused memory, where one was.
     fn note_short(&mut self, refused: bool)
-        ensures { self.new.is_short ≡ (self.old.is_short || refused) }
+        ensures { self.new ≡ record self.old { is_short = self.old.is_short || refused } }
     {
         self.is_short = self.is_short || refused;
     }
@@ -221,6 +199,78 @@ impl Fleet {
     }
 }
 
+/// Tells each unit of a frame, and what came of it for all of them; of each that claims its address again it is told.
+fn hear_all<N: Write>(
+    members: &mut [Member],
+    alloc: Global,
+    frame: &Frame,
+    now: u64,
+    notes: &mut N,
+) -> Taken
+    requires { Unit {0} }
+    ensures { HaveBeenTold frame.now members.old members.new (λ m. (⟦<dyn Unit as Unit>⟧ m.unit.unit.vtable).memory_of m.unit.unit.value) }
+{
+    let acceptance = Acceptance::of(frame);
+    let mut all = Taken {
+        defends: false,
+        is_woken: false,
+        is_refused: false,
+    };
+    for (place, member) in members.iter_mut().enumerate() {
+        let taken = member.take(alloc, frame, &acceptance, now);
+        if taken.defends {
+            let _ = write_violation(notes, place, frame);
+        }
+        all.is_woken = all.is_woken || taken.is_woken;
+        all.is_refused = all.is_refused || taken.is_refused;
+    }
+    all
+}
+
+/// What came of a step.
+#[derive(Clone, Copy)]
+struct Stepped {
+    /// The frame that goes, if one does.
+    frame: Option<Frame>,
+    /// Whose frame is asked for next.
+    turn: usize,
+    /// Whether memory was refused for one.
+    is_refused: bool,
+}
+
+/// The frame that goes at this time, if one does: of the first unit, from the one whose turn it is on, that has one.
+fn step_from<N: Write>(
+    members: &mut [Member],
+    alloc: Global,
+    turn: usize,
+    now: u64,
+    notes: &mut N,
+) -> Stepped
+    requires { Unit {0} }
+    ensures many { length members.new ≡ length members.old }
+    ensures source { AreFaultless members.old → IfSome result.frame (λ f. IsFromOne f members.new) }
+{
+    let mut is_refused = false;
+    let count = members.len();
+    for offset in 0..count {
+        let place = place_after(turn, offset, count);
+        let (short, frame) = members[place].step(alloc, place, now, notes);
+        is_refused = is_refused || short;
+        if frame.is_some() {
+            return Stepped {
+                frame,
+                turn: place_after(place, 1, count),
+                is_refused,
+            };
+        }
+    }
+    Stepped {
+        frame: None,
+        turn,
+        is_refused,
+    }
+}
+
 /// How a run ended whose lines ended so, and in which memory was refused or not.
 pub fn ended_short(lines: LinesEnd, is_short: bool) -> LinesEnd
     ensures short { is_short ≡ true → lines.fault ≡ None → result.fault ≡ Some Memory }
@@ -236,7 +286,9 @@ pub fn ended_short(lines: LinesEnd, is_short: bool) -> LinesEnd
 }
 
 /// The place so many after another, in a ring of `count`.
-fn place_after(place: usize, offset: usize, count: usize) -> usize {
+fn place_after(place: usize, offset: usize, count: usize) -> usize
+    ensures { 0 < count → result < count }
+{
     if count == 0 {
         return 0;
     }

@@ -3,6 +3,7 @@ ghost use Rattle.std.specs.Prelude.{[], ◌≡◌, ◌≤◌, ◌||◌, ◌⊎�
 ghost use Rattle.can_frame.specs.Fields.{source_of};
 ghost use Rattle.can_frame.specs.declared.address.TheConstants.{GREATEST_ADDRESS};
 ghost use Rattle.address_claim.specs.Frames.{claim_source};
+ghost use Rattle.live_lines.specs.Hearing.{IsFromIts};
 ghost use Rattle.live_unit.specs.Beside.{is_withheld};
 ghost use Rattle.live_unit.specs.Steps.{Writes};
 
@@ -20,6 +21,8 @@ use unit_trait::Unit;
 use vehicle::{AnswerLine, CyclicLine, FailLine, Identification};
 
 mod hearing;
+
+pub(crate) use self::hearing::Taken;
 
 /// How long a unit that was refused memory waits before it tries again, in microseconds.
 const RETRY: u64 = 100_000;
@@ -150,6 +153,7 @@ impl Member {
     /// Does of its own accord what is due. Tells whether it could not, for which it tries again later.
     pub(crate) fn act(&mut self, alloc: Global, now: u64) -> bool
         requires { Unit {0} }
+        ensures { self.new.faults ≡ self.old.faults }
     {
         if self.has_left || now < self.retry_from {
             return false;
@@ -182,6 +186,8 @@ impl Member {
         notes: &mut N,
     ) -> (bool, Option<Frame>)
         requires { Unit {0} }
+        ensures source { self.old.faults.all.items ≡ [] → IfSome result.1 (λ f. IsFromIts f self.new) }
+        ensures faultless { self.old.faults.all.items ≡ [] → self.new.faults.all.items ≡ [] }
     {
         let mut refused = false;
         for _ in 0..u64::MAX {
@@ -202,6 +208,7 @@ impl Member {
     fn note_written(&mut self, frame: &Option<Frame>)
         ensures unwatched { self.old.watch ≡ None → self.new ≡ self.old }
         ensures unwritten { frame.now ≡ None → self.new ≡ self.old }
+        ensures same { (self.new.unit ≡ self.old.unit) × (self.new.faults ≡ self.old.faults) }
     {
         let Some(frame) = *frame else {
             return;
@@ -215,8 +222,8 @@ impl Member {
     /// going, none where no frame is due.
     fn goes<N: Write>(&mut self, place: usize, now: u64, notes: &mut N) -> Option<Option<Frame>>
         requires { Unit {0} }
-        ensures without { self.old.faults.all.items ≡ []
-            → IfSome result (λ r. IfSome r (λ f. source_of f.id ≡ claim_source self.old.unit.live.node.claimer.held)) }
+        ensures without { self.old.faults.all.items ≡ [] → (self.new.faults ≡ self.old.faults)
+            × IfSome result (λ r. IfSome r (λ f. IsFromIts f self.new)) }
     {
         if self.has_left {
             return None;
@@ -269,6 +276,7 @@ impl Member {
     /// The frame of it that goes at this time: one that waits, or else one of a group of its own.
     fn due(&mut self, now: u64) -> Option<Frame>
         requires { Unit {0} }
+        ensures held { (self.new.unit.live.node ≡ self.old.unit.live.node) × (self.new.faults ≡ self.old.faults) }
         ensures source { IfSome result (λ f. source_of f.id ≡ claim_source self.old.unit.live.node.claimer.held) }
     {
         if self.has_left {
@@ -288,7 +296,7 @@ impl Member {
         ensures beside { (IsSome self.old.answers.broadcast ⊎ IsSome self.old.repeated.broadcast)
             → is_withheld self.old.unit.live.queue ≡ true → result ≡ None }
         ensures source { IfSome result (λ f. source_of f.id ≡ claim_source self.old.unit.live.node.claimer.held) }
-        ensures held { self.new.unit.live.node ≡ self.old.unit.live.node }
+        ensures held { (self.new.unit.live.node ≡ self.old.unit.live.node) × (self.new.faults ≡ self.old.faults) }
     {
         if self.is_telling() {
             self.unit.due_beside(now)
@@ -306,6 +314,7 @@ impl Member {
 
     /// The frame of its groups that goes at this time: an answer, or one that it sends again and again.
     fn group_due(&mut self, now: u64) -> Option<Frame>
+        ensures same { (self.new.unit ≡ self.old.unit) × (self.new.faults ≡ self.old.faults) }
         ensures source { IfSome result (λ f. source_of f.id ≡ claim_source self.old.unit.live.node.claimer.held) }
     {
         let source = self.unit.held()?;
@@ -325,6 +334,7 @@ impl Member {
 
     /// The frame that goes at this time of what it sends again and again.
     fn repeated_due(&mut self, source: u8, now: u64) -> Option<Frame>
+        ensures same { (self.new.unit ≡ self.old.unit) × (self.new.faults ≡ self.old.faults) }
         ensures source { IfSome result (λ f. source_of f.id ≡ source) }
     {
         let may_begin = !self.unit.is_telling() && !self.answers.is_telling();

@@ -1,5 +1,5 @@
 //! What a unit answers beside its node.
-ghost use Rattle.std.specs.Prelude.{◌≡◌, ◌≢◌, ◌≤◌, ◌&&◌, not, false, IfSome, None, Some, is_some, map, slice_get};
+ghost use Rattle.std.specs.Prelude.{[], ◌≡◌, ◌≢◌, ◌≤◌, ◌&&◌, not, false, IfSome, None, Some, is_some, map, slice_get};
 ghost use Rattle.std.specs.List.{All};
 ghost use Rattle.can_frame.specs.Fields.{source_of};
 ghost use Rattle.can_frame.specs.declared.address.TheConstants.{GLOBAL_ADDRESS};
@@ -63,7 +63,8 @@ impl OwnGroups {
 
     /// Whether a group is one of these.
     pub(crate) fn has(&self, pgn: Pgn) -> bool
-        ensures { result ≡ false → All (λ a. a.line.pgn ≢ pgn) self.now.all.items }
+        ensures none { result ≡ false → All (λ a. a.line.pgn ≢ pgn) self.now.all.items }
+        ensures empty { self.now.all.items ≡ [] → result ≡ false }
     {
         is_listed(self.all.as_slice(), pgn)
     }

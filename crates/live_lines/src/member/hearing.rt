@@ -1,10 +1,13 @@
 //! What a unit of a fleet hears.
-ghost use Rattle.std.specs.Prelude.{◌≡◌, ◌≢◌, ◌≤◌, ◌↔◌, IfSome, IsSome, IsTrue, None, false, true};
+ghost use Rattle.std.specs.Prelude.{[], ◌≡◌, ◌≢◌, ◌≤◌, ◌↔◌, IfSome, IsErr, IsOk, IsSome, IsTrue, None, false, true};
 ghost use Rattle.can_frame.specs.Fields.{source_of};
+ghost use Rattle.can_frame.specs.FrameValue.{FrameValue};
 ghost use Rattle.can_frame.specs.declared.address.TheConstants.{GREATEST_ADDRESS};
 ghost use Rattle.address_claim.specs.Claiming.{is_held};
+ghost use Rattle.live_lines.specs.Hearing.{HasBeenTold, HasTaken, IsForNode, IsHeardFrom, one_more};
 ghost use Rattle.live_lines.specs.Withheld.{IsAskedAlone, IsAskedOf, IsOfSeveral, IsSessionAsked};
 ghost use Rattle.live_unit.specs.Queue.{claiming_anew};
+ghost use Rattle.node_core.specs.Passing.{IsAcceptance};
 ghost use Rattle.address_claim.specs.Frames.{claim_frame_value};
 
 use super::Member;
@@ -19,11 +22,49 @@ use std::alloc::Global;
 use transport::Control;
 use unit_trait::Unit;
 
+/// What came of a frame that a unit was told of.
+#[derive(Clone, Copy)]
+pub(crate) struct Taken {
+    /// Whether it claims its address again for it.
+    pub(crate) defends: bool,
+    /// Whether it may have something to do for it.
+    pub(crate) is_woken: bool,
+    /// Whether memory was refused for it.
+    pub(crate) is_refused: bool,
+}
+
 impl Member {
+    /// Is told of a frame, of this acceptance: one that has left passes over it.
+    pub(crate) fn take(
+        &mut self,
+        alloc: Global,
+        frame: &Frame,
+        acceptance: &Acceptance,
+        now: u64,
+    ) -> Taken
+        requires unit { Unit {0} }
+        requires acceptance { IsAcceptance acceptance.now frame.now }
+        ensures { HasBeenTold frame.now self.old self.new (λ m. (⟦<dyn Unit as Unit>⟧ m.unit.unit.vtable).memory_of m.unit.unit.value) }
+    {
+        let defends = self.defend(frame, now);
+        let is_woken = !self.pass_over(acceptance);
+        let is_refused = is_woken && self.hear(alloc, frame, now);
+        Taken {
+            defends,
+            is_woken: is_woken || defends,
+            is_refused,
+        }
+    }
+
     /// Passes over a frame of this acceptance, where it asks nothing of the unit, and no session of another group is open, or the unit is
     /// not on the bus; answers whether it did.
-    pub(crate) fn pass_over(&mut self, acceptance: &Acceptance) -> bool
+    fn pass_over(&mut self, acceptance: &Acceptance) -> bool
         requires { Unit {0} }
+        ensures left { self.old.has_left ≡ true → (result ≡ true) × (self.new ≡ self.old) }
+        ensures stays { self.new.has_left ≡ self.old.has_left }
+        ensures taken { self.old.has_left ≡ false → result ≡ true → (f : FrameValue) → IsAcceptance acceptance.now f
+            → HasTaken f self.old self.new (λ m. (⟦<dyn Unit as Unit>⟧ m.unit.unit.vtable).memory_of m.unit.unit.value) }
+        ensures same { result ≡ false → IsHeardFrom self.old self.new }
     {
         if self.has_left {
             return true;
@@ -36,8 +77,10 @@ impl Member {
     }
 
     /// Has it hear a frame that it did not pass over. Tells whether memory was refused for it.
-    pub(crate) fn hear(&mut self, alloc: Global, frame: &Frame, now: u64) -> bool
+    fn hear(&mut self, alloc: Global, frame: &Frame, now: u64) -> bool
         requires { Unit {0} }
+        ensures stays { self.new.has_left ≡ self.old.has_left }
+        ensures taken { IsForNode self.old → HasTaken frame.now self.old self.new (λ m. (⟦<dyn Unit as Unit>⟧ m.unit.unit.vtable).memory_of m.unit.unit.value) }
     {
         let held = self.unit.held();
         if let Some(request) = self.withheld(frame) {
@@ -65,9 +108,11 @@ impl Member {
 
     /// Watches a frame, where it is on the bus: where somebody else sends from its address and it answers that, its claim is put
     /// once more. Answers whether it was.
-    pub(crate) fn defend(&mut self, frame: &Frame, now: u64) -> bool
+    fn defend(&mut self, frame: &Frame, now: u64) -> bool
         requires { Unit {0} }
-        ensures unwatched { self.old.watch ≡ None → result ≡ false }
+        ensures left { self.old.has_left ≡ true → (result ≡ false) × (self.new ≡ self.old) }
+        ensures stays { self.new.has_left ≡ self.old.has_left }
+        ensures unwatched { self.old.watch ≡ None → (result ≡ false) × (self.new ≡ self.old) }
         ensures elsewhere { is_held self.old.unit.live.node.claimer.held (source_of frame.now.id) ≡ false → result ≡ false }
         ensures claims { result ≡ true → self.new.unit.live.queue ≡ claiming_anew
             (claim_frame_value self.old.unit.live.node.claimer.name self.old.unit.live.node.claimer.held) self.old.unit.live.queue }
@@ -82,9 +127,9 @@ impl Member {
     /// Whether somebody else sends a frame from its address, for which it is to claim that again.
     fn is_violated(&mut self, frame: &Frame, now: u64) -> bool
         requires { Unit {0} }
-        ensures unwatched { self.old.watch ≡ None → result ≡ false }
+        ensures unwatched { self.old.watch ≡ None → (result ≡ false) × (self.new ≡ self.old) }
         ensures elsewhere { is_held self.old.unit.live.node.claimer.held (source_of frame.now.id) ≡ false → result ≡ false }
-        ensures same { self.new.unit ≡ self.old.unit }
+        ensures same { (self.new.unit ≡ self.old.unit) × (self.new.has_left ≡ self.old.has_left) }
     {
         let held = self.unit.held();
         match &mut self.watch {
@@ -105,7 +150,10 @@ impl Member {
     }
 
     /// Counts a frame as heard, or as one that could not be. Tells whether memory was refused for it.
-    fn count(&mut self, heard: Result<(), LiveError>) -> bool {
+    fn count(&mut self, heard: Result<(), LiveError>) -> bool
+        ensures ok { IsOk heard → self.new ≡ record self.old { heard = one_more self.old.heard } }
+        ensures err { IsErr heard → self.new ≡ record self.old { unheard = one_more self.old.unheard } }
+    {
         match heard {
             Ok(()) => {
                 self.heard = self.heard.saturating_add(1);
@@ -121,7 +169,8 @@ impl Member {
     /// What a frame asks for that the unit answers beside its node. Of a frame that is none of these the node hears, as it does
     /// without answers.
     fn withheld(&self, frame: &Frame) -> Option<Request>
-        ensures { IfSome result (IsAskedOf self.now.unit.live.node.claimer.held frame.now) }
+        ensures asked { IfSome result (IsAskedOf self.now.unit.live.node.claimer.held frame.now) }
+        ensures none { self.now.answers.all.items ≡ [] → result ≡ None }
     {
         let request = asked_of(frame, self.unit.held())?;
         if self.answers.has(request.pgn) {
@@ -135,6 +184,7 @@ impl Member {
     /// is open, another is refused (control 3).
     fn answer(&mut self, request: Request) -> bool
         requires { Unit {0} }
+        ensures { self.new.has_left ≡ self.old.has_left }
     {
         let Request { pgn, dest, source } = request;
         let place = match self.answers.place_of_several(pgn) {

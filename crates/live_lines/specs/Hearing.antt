@@ -8,10 +8,6 @@ use Rattle.node_core.specs.declared.heard.Answer.{Answer}
 use Rattle.live_unit.specs.Steps.{HasHeardFrame, standing}
 use Rattle.live_lines.specs.declared.member.Member.{Member}
 
--- one more, up to the greatest count
-abbrev pub one_more : ℕ → ℕ
-one_more n = min (n + 1) (2 ^ 64 - 1)
-
 -- all that it hears is for its node: it does not watch its address, has no groups of its own to answer, and no session of one is open
 pub record IsForNode {X : Type 0} {P : X → Type 0} (m : Member X P) : Type 0 where
   pub unwatched : m.watch ≡ None
@@ -19,16 +15,16 @@ pub record IsForNode {X : Type 0} {P : X → Type 0} (m : Member X P) : Type 0 w
   pub unanswered : m.answers.all.items ≡ []
 
 -- the unit heard it, and is counted so; or it could not, is as it was, and is counted so
-abbrev pub HasTaken : {X : Type 0} {P : X → Type 0} → FrameValue → Member X P → Member X P → (Member X P → MemoryValue) → Type 0
-HasTaken f m m' memory =
+abbrev pub HasTakenFrame : {X : Type 0} {P : X → Type 0} → FrameValue → Member X P → Member X P → (Member X P → MemoryValue) → Type 0
+HasTakenFrame f m m' memory =
     ((answer : Answer) × HasHeardFrame f m.unit.live.clock.asked answer
     (standing m.unit.live.node (memory m) m.unit.live.queue) (standing m'.unit.live.node (memory m') m'.unit.live.queue)
-    × (m'.heard ≡ one_more m.heard) × (m'.unheard ≡ m.unheard))
+    × (m'.heard ≡ min (m.heard + 1) (2 ^ 64 - 1)) × (m'.unheard ≡ m.unheard))
     ⊎ ((m'.unit.live.node ≡ m.unit.live.node) × (m'.unit.live.queue ≡ m.unit.live.queue) × (m'.unit.unit ≡ m.unit.unit)
-    × (m'.heard ≡ m.heard) × (m'.unheard ≡ one_more m.unheard))
+    × (m'.heard ≡ m.heard) × (m'.unheard ≡ min (m.unheard + 1) (2 ^ 64 - 1)))
 
 -- it is as it was, but for what its node may note of a frame that it is still to hear
-pub record IsHeardFrom {X : Type 0} {P : X → Type 0} (m m' : Member X P) : Type 0 where
+pub record IsStillToHear {X : Type 0} {P : X → Type 0} (m m' : Member X P) : Type 0 where
   pub node : m'.unit.live.node ≡ m.unit.live.node
   pub clock : m'.unit.live.clock ≡ m.unit.live.clock
   pub queue : m'.unit.live.queue ≡ m.unit.live.queue
@@ -41,7 +37,7 @@ pub record IsHeardFrom {X : Type 0} {P : X → Type 0} (m m' : Member X P) : Typ
 pub record HasBeenTold {X : Type 0} {P : X → Type 0} (f : FrameValue) (m m' : Member X P) (memory : Member X P → MemoryValue) : Type 0 where
   pub left : m.has_left ≡ true → m' ≡ m
   pub stays : m'.has_left ≡ m.has_left
-  pub taken : m.has_left ≡ false → IsForNode m → HasTaken f m m' memory
+  pub taken : m.has_left ≡ false → IsForNode m → HasTakenFrame f m m' memory
 
 -- each in its place
 pub record HaveBeenTold {X : Type 0} {P : X → Type 0} (f : FrameValue) (old new : List (Member X P)) (memory : Member X P → MemoryValue) : Type 0 where

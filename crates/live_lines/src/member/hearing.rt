@@ -1,10 +1,10 @@
 //! What a unit of a fleet hears.
-ghost use Rattle.std.specs.Prelude.{[], ◌≡◌, ◌≢◌, ◌≤◌, ◌↔◌, IfSome, IsErr, IsOk, IsSome, IsTrue, None, false, true};
+ghost use Rattle.std.specs.Prelude.{[], ◌+◌, ◌-◌, ◌^◌, min, ◌≡◌, ◌≢◌, ◌≤◌, ◌↔◌, IfSome, IsErr, IsOk, IsSome, IsTrue, None, false, true};
 ghost use Rattle.can_frame.specs.Fields.{source_of};
 ghost use Rattle.can_frame.specs.FrameValue.{FrameValue};
 ghost use Rattle.can_frame.specs.declared.address.TheConstants.{GREATEST_ADDRESS};
 ghost use Rattle.address_claim.specs.Claiming.{is_held};
-ghost use Rattle.live_lines.specs.Hearing.{HasBeenTold, HasTaken, IsForNode, IsHeardFrom, one_more};
+ghost use Rattle.live_lines.specs.Hearing.{HasBeenTold, HasTakenFrame, IsForNode, IsStillToHear};
 ghost use Rattle.live_lines.specs.Withheld.{IsAskedAlone, IsAskedOf, IsOfSeveral, IsSessionAsked};
 ghost use Rattle.live_unit.specs.Queue.{claiming_anew};
 ghost use Rattle.node_core.specs.Passing.{IsAcceptance};
@@ -63,8 +63,8 @@ impl Member {
         ensures left { self.old.has_left ≡ true → (result ≡ true) × (self.new ≡ self.old) }
         ensures stays { self.new.has_left ≡ self.old.has_left }
         ensures taken { self.old.has_left ≡ false → result ≡ true → (f : FrameValue) → IsAcceptance acceptance.now f
-            → HasTaken f self.old self.new (λ m. (⟦<dyn Unit as Unit>⟧ m.unit.unit.vtable).memory_of m.unit.unit.value) }
-        ensures same { result ≡ false → IsHeardFrom self.old self.new }
+            → HasTakenFrame f self.old self.new (λ m. (⟦<dyn Unit as Unit>⟧ m.unit.unit.vtable).memory_of m.unit.unit.value) }
+        ensures same { result ≡ false → IsStillToHear self.old self.new }
     {
         if self.has_left {
             return true;
@@ -80,7 +80,7 @@ impl Member {
     fn hear(&mut self, alloc: Global, frame: &Frame, now: u64) -> bool
         requires { Unit {0} }
         ensures stays { self.new.has_left ≡ self.old.has_left }
-        ensures taken { IsForNode self.old → HasTaken frame.now self.old self.new (λ m. (⟦<dyn Unit as Unit>⟧ m.unit.unit.vtable).memory_of m.unit.unit.value) }
+        ensures taken { IsForNode self.old → HasTakenFrame frame.now self.old self.new (λ m. (⟦<dyn Unit as Unit>⟧ m.unit.unit.vtable).memory_of m.unit.unit.value) }
     {
         let held = self.unit.held();
         if let Some(request) = self.withheld(frame) {
@@ -151,8 +151,8 @@ impl Member {
 
     /// Counts a frame as heard, or as one that could not be. Tells whether memory was refused for it.
     fn count(&mut self, heard: Result<(), LiveError>) -> bool
-        ensures ok { IsOk heard → self.new ≡ record self.old { heard = one_more self.old.heard } }
-        ensures err { IsErr heard → self.new ≡ record self.old { unheard = one_more self.old.unheard } }
+        ensures ok { IsOk heard → self.new ≡ record self.old { heard = min (self.old.heard + 1) (2 ^ 64 - 1) } }
+        ensures err { IsErr heard → self.new ≡ record self.old { unheard = min (self.old.unheard + 1) (2 ^ 64 - 1) } }
     {
         match heard {
             Ok(()) => {

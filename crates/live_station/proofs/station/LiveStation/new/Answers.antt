@@ -14,4 +14,4 @@ returns-clause-value c =
     ∙ ap (λ (s : StationValue). putting false (plain (own_claim s.claimer) ∷ []) (empty_queue c.args.want)) (sym c.station.view_is))
     c.at_start.ensures
     c.in_ok-new.ensures
-    c.in_ok-new-losses.ensures
+    c.in_ok-new-2.ensures

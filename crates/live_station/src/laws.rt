@@ -4,6 +4,7 @@ ghost use Rattle.bus_model.specs.Heard.{Joining, StationSettings};
 ghost use Rattle.can_frame.specs.FrameValue.{FrameValue};
 ghost use Rattle.can_frame.specs.declared.reading.Reading.{Reading};
 ghost use Rattle.can_frame.specs.declared.reading.Reading.TheVariants.{Frame};
+ghost use Rattle.dm_messages.specs.View.{pgn_of_kind};
 ghost use Rattle.dm_messages.specs.declared.kind.Kind.{Kind};
 ghost use Rattle.entry_lists.specs.Entries.{with_listed};
 ghost use Rattle.parameter_group.specs.Group.{DataTransfer, Group};
@@ -12,10 +13,12 @@ ghost use Rattle.station_table.specs.Reactions.{group_reaction};
 ghost use Rattle.station_table.specs.Steps.{after_group};
 ghost use Rattle.station_table.specs.declared.session.Session.{Session};
 ghost use Rattle.transport.specs.Assembling.{is_next};
+ghost use Rattle.transport.specs.declared.control.Control.TheVariants.{Abort};
 ghost use Rattle.live_station.specs.Ear.{entry_of_told, frames_told, is_out_of_turn};
-ghost use Rattle.live_station.specs.Losses.{missing_asked, next_packet};
+ghost use Rattle.live_station.specs.Losses.{control_again, missing_asked, next_packet, watch_asked, watch_passed};
 ghost use Rattle.live_station.specs.Positive.{AcknowledgesClear, IsOutAs, IsPositive, IsSameRequest, IsUndoubted};
 ghost use Rattle.live_station.specs.Working.{WorkingValue, progress_by};
+ghost use Rattle.live_station.specs.declared.loss.Watch.{Watch};
 ghost use Rattle.live_station.specs.declared.open.Asked.{Asked};
 ghost use Rattle.live_station.specs.declared.open.OpenOrder.{OpenOrder};
 ghost use Rattle.live_station.specs.declared.open.Progress.{Progress};
@@ -59,4 +62,10 @@ pub fn packets_are_told_in_order()
 pub fn what_is_missing_is_asked_for()
     ensures { (j : Session) → 0 < j.at_once → j.taken < j.packets → j.packets < 256
         → (next_packet j ≡ j.taken + 1) × (0 < missing_asked j) × (j.taken + missing_asked j ≤ j.packets) }
+{}
+
+/// A packet is asked for again twice at most: where it is missing still, the session is given up, whatever was passed over meanwhile.
+pub fn a_packet_is_asked_for_again_twice()
+    ensures { (j : Session) (w : Watch) (first second between behind number other : ℕ)
+        → (reason : ℕ) × (control_again j (watch_passed other behind (watch_asked j second (watch_passed number between (watch_asked j first w)))) ≡ Abort reason (pgn_of_kind j.kind)) }
 {}

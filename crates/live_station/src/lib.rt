@@ -22,8 +22,8 @@ mod waiting;
 
 pub use error::{HearError, OrderError};
 pub use laws::{
-    a_clear_stays_out_undoubted, lists_are_what_was_told, packets_are_told_in_order,
-    positive_is_acknowledged, what_is_missing_is_asked_for,
+    a_clear_stays_out_undoubted, a_packet_is_asked_for_again_twice, lists_are_what_was_told,
+    packets_are_told_in_order, positive_is_acknowledged, what_is_missing_is_asked_for,
 };
 pub use open::{Asked, OpenOrder, Part, Progress, Stage};
 pub use order::{Clearing, Order};

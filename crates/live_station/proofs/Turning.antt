@@ -1,6 +1,7 @@
 -- What a station does stays the same from one time to another, where each time that it waits for has come at both or at neither.
-use Rattle.std.proofs.Common.{◌≡◌, ℕ, Bool, true, false, not, cond, ◌&&◌, nat_le, nat_lt, List, [], ◌∷◌, length, ◌+◌, Option, Some, None, is_some, if◌then◌else◌, arith, refl, ap, ◌∙◌}
+use Rattle.std.proofs.Common.{◌≡◌, ◌≤◌, ℕ, Bool, true, false, not, cond, ◌&&◌, nat_le, nat_lt, List, [], ◌∷◌, length, ◌+◌, Option, Some, None, is_some, if◌then◌else◌, arith, refl, ap, ◌∙◌}
 use Rattle.std.specs.List.{All, AllByRecursion, position_or_len}
+use Rattle.std.proofs.lemmas.Bool.{ltb-false}
 use Rattle.std.proofs.lemmas.List.Elements.{recursion_from_All}
 use Rattle.live_unit.specs.Queue.{QueueValue, waits}
 use Rattle.live_unit.specs.Times.{lane_due}
@@ -168,7 +169,7 @@ none_goes c now q e =
 
 none_watched : (ws : List Watch) → nat_lt 0 (length ws) ≡ false → ws ≡ []
 none_watched [] e = refl
-none_watched (w ∷ ws) e = absurd (omega arith)
+none_watched (w ∷ ws) e = (let none : length (w ∷ ws) ≤ 0 = ltb-false 0 (length (w ∷ ws)) e in absurd (omega arith))
 
 nothing_free : (s : WorkingValue) (t : ℕ) → s.losses ≡ [] → s.asks_claims ≡ false → s.order ≡ None → turn_behind None t s ≡ turn.Rests
 nothing_free s t w e f = rw (w, e, f) (either Turn turn.Rests (is_settled t s))

@@ -4,4 +4,6 @@ mod Searching
 mod Stations
 mod Stepping
 mod AtBench
+mod WireLog
 mod Refusing
+mod Relaying

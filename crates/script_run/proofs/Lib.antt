@@ -7,3 +7,4 @@ mod AtBench
 mod WireLog
 mod Refusing
 mod Relaying
+mod Ending

@@ -25,5 +25,8 @@ pub fn check<R: Read, W: Write>(alloc: Global, reader: &mut R, writer: &mut W) -
     let text = read_text(alloc, reader)?;
     let mut nothing: Vec<u8> = Vec::new(alloc);
     let mut reporter = LineReporter::new(LineForm::Reason, writer, None, &mut nothing);
-    reporter.report_lines(alloc, text.as_str())
+    match reporter.report_lines(alloc, text.as_str()) {
+        Ok(()) => Ok(()),
+        Err(fault) => Err(fault),
+    }
 }

@@ -62,6 +62,7 @@ fn threads<R: Runtime + AllocGlobal + Threads + Wait + Sync>(
     reads: u32,
     report: bool,
 ) -> Result<(), Failure> {
+    let mut writer = BufWriter::new(rt.alloc(), io::writer(rt)).map_err(|_| Fault::Memory)?;
     unit_threads::threads(
         rt,
         rt.alloc(),
@@ -69,7 +70,7 @@ fn threads<R: Runtime + AllocGlobal + Threads + Wait + Sync>(
         reads,
         report,
         &mut rt.reader(),
-        &mut io::writer(rt),
+        &mut writer,
     )
 }
 

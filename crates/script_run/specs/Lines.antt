@@ -10,6 +10,7 @@ use Rattle.garage.specs.Opening.{AreSettings, IsSetting, new_garage, setting_val
 use Rattle.garage.specs.declared.error.GarageError.{GarageError}
 use Rattle.garage.specs.declared.error.GarageError.TheVariants.{BadSetting, NameInUse, OutOfMemory}
 use Rattle.garage.specs.declared.opening.Setting.{Setting}
+use Rattle.report.specs.Text.{report_at}
 use Rattle.script_answer.specs.Text.{answer_text}
 use Rattle.script_answer.specs.declared.answer.LineAnswer.{LineAnswer}
 use Rattle.script_answer.specs.declared.answer.LineAnswer.TheVariants.{Done}
@@ -22,7 +23,7 @@ use Rattle.script_line.specs.declared.command.Command.TheVariants as command
 use Rattle.script_line.specs.declared.command.ScriptLine.{ScriptLine}
 use Rattle.script_line.specs.declared.command.StationWords.{StationWords}
 use Rattle.script_run.specs.Moves.{Moves, MovesByJoining}
-use Rattle.script_run.specs.Queries.{list_shown_at, query_answer, report_at}
+use Rattle.script_run.specs.Queries.{list_shown_at, query_answer}
 
 -- ---- before there is a garage
 

@@ -1,19 +1,16 @@
 -- What a query of a script is answered: what the garage shows, at the station that the line names.
-use Rattle.std.specs.Prelude.{ℕ, List, ◌++◌, map, reverse, Option, Some, None, Result, Ok, Err, slice_get}
-use Rattle.std.specs.List.{flat_map}
+use Rattle.std.specs.Prelude.{ℕ, List, reverse, Option, Some, None, Result, Ok, Err, slice_get}
 use Rattle.std.specs.Option.{option_map}
 use Rattle.bus_ledger.specs.BusValue.{SeatValue}
 use Rattle.bus_ledger.specs.Ledger.{counts_of}
-use Rattle.bus_model.specs.Heard.{entries_heard, missed_count, names_heard, unread_count}
+use Rattle.bus_model.specs.Heard.{entries_heard}
 use Rattle.entry_lists.specs.KeptValue.{kept_under}
 use Rattle.entry_lists.specs.KnownRows.{row_of}
 use Rattle.dm_messages.specs.declared.kind.Kind.{Kind}
 use Rattle.journal.specs.Journal.{GarageValue, injected_of, readings_at, state_of}
 use Rattle.journal.specs.State.{table_at}
 use Rattle.journal.specs.Worlds.{station_of_at}
-use Rattle.garage.specs.Snapshots.{line_at}
 use Rattle.report.specs.Shown.{shown_text}
-use Rattle.report.specs.Text.{row_text, total_text}
 use Rattle.script_answer.specs.declared.answer.LineAnswer.{LineAnswer}
 use Rattle.script_answer.specs.declared.answer.LineAnswer.TheVariants as answer
 use Rattle.script_answer.specs.declared.refusal.Refusal.{Refusal}
@@ -38,9 +35,3 @@ query_answer g y _ = None
 -- the text of what is shown: the list that this station heard under the NAME, of this kind
 abbrev pub list_shown_at : GarageValue → ℕ → ℕ → Kind → List ℕ
 list_shown_at g y name kind = shown_text (reverse (entries_heard (station_of_at g.settings y) name kind (readings_at y g.journal)))
-
--- the text of a station's report: a line for each NAME that it heard, then what it missed and could not read
-abbrev pub report_at : GarageValue → ℕ → List ℕ
-report_at g y =
-    flat_map row_text (map (line_at g y) (names_heard (readings_at y g.journal)))
-    ++ total_text (missed_count (readings_at y g.journal)) (unread_count (station_of_at g.settings y) (readings_at y g.journal))

@@ -2,11 +2,12 @@ ghost use Rattle.std.specs.Prelude.{◌≡◌, ◌⊎◌, ◌<◌, [], length, I
 ghost use Rattle.std.specs.Option.{option_map};
 ghost use Rattle.journal.specs.Journal.{state_of};
 ghost use Rattle.garage.specs.ParkedUnits.{asked_of, sitting_of};
+ghost use Rattle.report.specs.Text.{report_at};
 ghost use Rattle.script_run.specs.Commands.{ActsBy, Does, Joins, Leaves};
 ghost use Rattle.script_run.specs.Lines.{Answered, BenchDoes, Showed, StationDoes};
 ghost use Rattle.script_run.specs.Moves.{MovesByJoining};
 ghost use Rattle.script_run.specs.Steps.{RunsRounds};
-ghost use Rattle.script_run.specs.Queries.{counts_answer, query_answer, report_at};
+ghost use Rattle.script_run.specs.Queries.{counts_answer, query_answer};
 ghost use Rattle.script_run.specs.Sinks.{IsToldSo};
 
 use crate::answer_sink::AnswerSink;

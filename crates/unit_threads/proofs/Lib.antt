@@ -2,3 +2,4 @@ mod Turning
 mod Comparing
 pub mod Reading
 mod Boxes
+mod Writing

@@ -540,13 +540,21 @@ HIDZGULA_LAYOUT(offsetof(hidzgula_unit_counts_out, waiting) == 24);
 
 /* Opens a station of this NAME, which holds `address`, 0 to 253, and lets a sender send at most `grant` packets at once, 1 to 255.
  * Of each list, one by NAME and kind, it keeps the newest `keep` messages and counts all; where that is 0 it keeps none, and UINT32_MAX
- * keeps all that a program will see. So what it takes of memory is bounded by the NAMEs and by `keep`.
+ * keeps all that a program will see. So what it takes of memory is bounded by the NAMEs (`hidzgula_make_room`) and by `keep`.
  * It has read nothing. A gateway that sends begins with the frame of `hidzgula_claim`.
  * BAD_SETTING, HAS_STATION, OUT_OF_MEMORY. */
 uint32_t hidzgula_open(hidzgula_station *station, uint64_t name, uint8_t address, uint8_t grant, uint32_t keep);
 
 /* Closes a station and frees all its memory; does nothing where there is none. */
 void hidzgula_close(hidzgula_station *station);
+
+/* Makes room for one more NAME, of which a station is to have `most` at most: called before each frame, it never has more. Where it has as many, it
+ * is begun anew, and `anew` is 1, else 0: it holds its address as before, and knows the NAMEs that hold others, if these are fewer than `most`,
+ * so that no message is listed under another unit. Its lists, counts and other rows, and what is half read, are gone: whoever wants them asks
+ * before. Before `n` frames in a row room is made with `most` less `n` - 1.
+ * BAD_SETTING for `most` 0, NO_STATION; and where it is to be begun anew NOT_HELD while it holds no address, so that it is to be closed, and opened
+ * at another one, or OUT_OF_MEMORY. A frame that is handed over all the same may bring one NAME more. */
+uint32_t hidzgula_make_room(hidzgula_station *station, size_t most, uint8_t *anew);
 
 /* What the next two call, with a `change` that is not NULL: for programs that bind the archive's names without this header. */
 uint32_t hidzgula_take_frame_telling(
@@ -664,6 +672,12 @@ uint32_t hidzgula_listener_open(hidzgula_listener *listener, uint32_t keep);
 
 /* Closes a listener and frees all its memory; does nothing where there is none. */
 void hidzgula_listener_close(hidzgula_listener *listener);
+
+/* Makes room for one more NAME and one more unit that has lists, of which a listener is to have `most` at most, as `hidzgula_make_room`. One that is
+ * begun anew knows the NAMEs that hold addresses, if these are fewer than `most`; its other rows, all lists and counts, and messages under
+ * way, are gone. Gaps and messages that break are numbered on, so that a `hidzgula_who` stands for one unit.
+ * BAD_SETTING for `most` 0, NO_LISTENER, OUT_OF_MEMORY. */
+uint32_t hidzgula_listener_make_room(hidzgula_listener *listener, size_t most, uint8_t *anew);
 
 /* The listener takes a frame that was read of the bus at `now`: its 29-bit identifier, and `length` bytes. Frames with 11-bit identifiers,
  * remote frames and error frames are not handed over. `heard` is what the frame changed.
@@ -821,6 +835,13 @@ uint32_t hidzgula_live_open(hidzgula_live *live, uint64_t name, uint8_t address,
 
 /* Closes a live station and frees all its memory; an order that is open gets no verdict. Does nothing where there is none. */
 void hidzgula_live_close(hidzgula_live *live);
+
+/* Makes room for one more NAME, as `hidzgula_make_room`, while no order is open. A station that is begun anew is as one that was opened at its address
+ * and heard the claims of the NAMEs that hold others: so it claims again, and asks all for their claims. What waits is let go; the newest
+ * verdict and the groups that the program shares stay. Its own frames that come back behind that are a STRANGER's, but for claims.
+ * BAD_SETTING for `most` 0, NO_STATION; and where it is to be begun anew ORDER_OPEN while an order is open (`hidzgula_live_end`), NOT_HELD while it
+ * holds no address, OUT_OF_MEMORY. */
+uint32_t hidzgula_live_make_room(hidzgula_live *live, size_t most, uint8_t *anew);
 
 /* The station hears a frame that was read of the bus: its 29-bit identifier, and `length` bytes. It does what it owes for it, lists the message that
  * ends with it, and looks at it for the open order. `change` is what the frame changed; of a frame of its own, NOTHING or STRANGER.

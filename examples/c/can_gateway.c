@@ -3,7 +3,8 @@
  *  - the kernel hands on 29-bit data frames alone, and what the controller tells of itself;
  *  - what the kernel dropped, since the program was slow (SO_RXQ_OVFL), or the controller lost, is a gap of so many frames, or of one: the
  *    station then forgets who has which address, and asks anew;
- *  - while the bus takes nothing, what is to be sent waits here; a reply may withdraw it; and while there is no room, nothing is read.
+ *  - while the bus takes nothing, what is to be sent waits here; a reply may withdraw it; and while there is no room, nothing is read;
+ *  - whatever claims, it has 1,024 NAMEs at most, and goes on for years.
  * `-` for the interface is a socket at standard input that takes and gives the same frames. It ends with status 1, and says why. */
 #define _DEFAULT_SOURCE
 #include "hidzgula_station.h"
@@ -19,11 +20,12 @@
 #include <string.h>
 #include <sys/socket.h>
 
-enum { ROOM = 64, MOST = 6, KEPT = 16 }; /* of frames that wait; that one frame makes at most, a gap's and its own; of each list */
+enum { ROOM = 64, MOST = 6, KEPT = 16, NAMES = 1024 }; /* of frames that wait; that one frame makes at most, a gap's and its own; of each list */
 
 static hidzgula_station station = HIDZGULA_EMPTY;
 static struct can_frame waiting[ROOM];
 static size_t count;
+static bool lost; /* the address, where the station is to be begun anew at it */
 static uint32_t missed, dropped; /* what the station is not told yet; what the kernel dropped by its last word */
 
 /* -1 where it cannot be opened: errno says why */
@@ -92,6 +94,7 @@ static void take(const struct can_frame *it)
 {
     hidzgula_reply reply;
     hidzgula_change change;
+    uint8_t anew = 0;
     if ((it->can_id & CAN_ERR_FLAG) && (it->can_id & CAN_ERR_CRTL) && (it->data[1] & CAN_ERR_CRTL_RX_OVERFLOW)) miss(1);
     if (missed && hidzgula_take_gap(&station, missed, &reply, NULL) == HIDZGULA_DONE) {
         printf("{\"missed\":%" PRIu32 "}\n", missed);
@@ -99,7 +102,9 @@ static void take(const struct can_frame *it)
         put_reply(&reply);
     }
     if ((it->can_id & (CAN_EFF_FLAG | CAN_RTR_FLAG | CAN_ERR_FLAG)) != CAN_EFF_FLAG) return;
-    if (missed || hidzgula_take_frame(&station, it->can_id & CAN_EFF_MASK, it->data, it->can_dlc, &reply, &change) != HIDZGULA_DONE) {
+    lost = !missed && hidzgula_make_room(&station, NAMES, &anew) == HIDZGULA_NOT_HELD;
+    if (anew) printf("{\"anew\":true}\n");
+    if (missed || lost || hidzgula_take_frame(&station, it->can_id & CAN_EFF_MASK, it->data, it->can_dlc, &reply, &change) != HIDZGULA_DONE) {
         miss(1);
         return;
     }
@@ -149,8 +154,8 @@ int main(int argc, char **argv)
         one.events = count + MOST <= ROOM ? POLLIN : 0;
         one.revents = 0;
         poll(&one, 1, count ? 1 : -1);
-        goes_on = (!one.events || !one.revents || read_frame(one.fd)) && write_waiting(one.fd);
+        goes_on = (!one.events || !one.revents || read_frame(one.fd)) && write_waiting(one.fd) && !lost;
     }
     hidzgula_close(&station);
-    return failed(argv[1], errno ? strerror(errno) : "the bus has ended");
+    return failed(argv[1], lost ? "another unit has the address" : errno ? strerror(errno) : "the bus has ended");
 }

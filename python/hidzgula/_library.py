@@ -250,6 +250,7 @@ _HEARD = POINTER(HeardRecord)
 CALLS = {
     "hidzgula_open": (_STATION, c_uint64, c_uint8, c_uint8, c_uint32),
     "hidzgula_close": (_STATION,),
+    "hidzgula_make_room": (_STATION, c_size_t, POINTER(c_uint8)),
     "hidzgula_take_frame_telling": (_STATION, c_uint32, c_char_p, c_size_t, _REPLY, _CHANGE),
     "hidzgula_take_frames": (_STATION, c_void_p, c_size_t, c_void_p, c_size_t, _REPLY, POINTER(c_size_t)),
     "hidzgula_take_gap_telling": (_STATION, c_uint32, _REPLY, _CHANGE),
@@ -267,6 +268,7 @@ CALLS = {
     "hidzgula_read_log": (c_void_p, c_size_t, c_char_p, c_size_t, c_void_p, c_size_t, c_void_p, c_size_t, POINTER(ReadRecord)),
     "hidzgula_live_open": (_LIVE, c_uint64, c_uint8, POINTER(LiveSettingsRecord)),
     "hidzgula_live_close": (_LIVE,),
+    "hidzgula_live_make_room": (_LIVE, c_size_t, POINTER(c_uint8)),
     "hidzgula_live_hear": (_LIVE, c_uint32, c_char_p, c_size_t, c_uint64, _CHANGE),
     "hidzgula_live_missed": (_LIVE, c_uint32, c_uint64, _CHANGE),
     "hidzgula_live_next": (_LIVE, c_uint64, POINTER(FrameRecord), POINTER(c_uint8)),
@@ -292,6 +294,7 @@ CALLS = {
     "hidzgula_live_code": (_LIVE, c_uint64, c_uint8, c_uint64, c_size_t, POINTER(CodeRecord)),
     "hidzgula_listener_open": (_LISTENER, c_uint32),
     "hidzgula_listener_close": (_LISTENER,),
+    "hidzgula_listener_make_room": (_LISTENER, c_size_t, POINTER(c_uint8)),
     "hidzgula_listener_take_at": (_LISTENER, c_uint64, c_uint32, c_char_p, c_size_t, _HEARD),
     "hidzgula_listener_take_frames_at": (_LISTENER, c_void_p, c_size_t, c_void_p, c_size_t, c_void_p, c_size_t, POINTER(c_size_t)),
     "hidzgula_listener_missed_at": (_LISTENER, c_uint64, c_uint32, _HEARD),

@@ -6,10 +6,11 @@ from typing import Any, Callable, Iterable, Optional
 
 from ._library import ChangeRecord, FrameRecord, LiveRecord, LiveSettingsRecord, MessageRecord, VerdictRecord, library
 from .records import Change, Doubt, Finding, Frame, Kind, SharedMessage, Verdict, What
-from .station import KEEP_ALL, Known, Octets, Queries, at_address, change_of, done, frame_of, number_of, octets_of, said_by
+from .station import KEEP_ALL, Ceiling, Known, Octets, Queries, at_address, change_of, done, frame_of, number_of, octets_of, said_by
 
 _NEVER = 2**64 - 1
 _OPEN = 1
+_ORDER_OPEN = 42
 _GROUPS = {Kind.DM1: 65226, Kind.DM2: 65227, Kind.DM6: 65231}
 # the kind of the message that answers a request for a group; of a clear the one that shows what is left
 _KINDS = {65226: Kind.DM1, 65227: Kind.DM2, 65231: Kind.DM6, 65228: Kind.DM2, 65235: Kind.DM1}
@@ -49,6 +50,7 @@ class LiveStation(Known):
         *,
         grant: int = 255,
         keep: Optional[int] = 16,
+        most: Optional[int] = None,
         gap: int = 50_000,
         settle: int = 250_000,
         share: Iterable[int] = (),
@@ -60,12 +62,15 @@ class LiveStation(Known):
         address: which it holds, 0 to 253.
         grant: how many packets it lets a sender send at once, 1 to 255 (SAE J1939-21).
         keep: of each list the newest so many messages are kept, 0 to 2^32 - 1, and all are counted; None for all.
+        most: how many NAMEs it has at most, 1 or more; None for all. Where it has as many, the next frame begins it anew, as it begins a `Station`: it
+            claims its address again and asks all for their claims, and what waits is let go. While an order is open it may have twice as many;
+            with these the order is cut off.
         gap: microseconds at least from a frame of a command to the next, 10,000 to 200,000: 50 to 200 ms by SAE J1939-21, 10 to 200 ms by
             ISO 11783-3 and later editions (from memory).
         settle: microseconds from the claim of a new address to anything but a claim, up to 1,000,000 (SAE J1939-81: 250,000).
         share: groups whose messages the program has at this address; each that is whole is handed to `on_message` by the call of `hear` that made it so.
 
-        Raises Refused BAD_SETTING for an address above 253, a grant of 0 or a time out of its range, NO_GROUP for a group of the protocol or of
+        Raises Refused BAD_SETTING for an address above 253, a grant of 0, `most` 0 or a time out of its range, NO_GROUP for a group of the protocol or of
         diagnostics in `share`, and MemoryError.
         """
         self._station = LiveRecord()
@@ -76,6 +81,7 @@ class LiveStation(Known):
         self._shares = False
         self.on_message = on_message
         self._keep = number_of("keep", KEEP_ALL if keep is None else keep, KEEP_ALL)
+        self._ceiling = Ceiling(most, library.hidzgula_live_make_room)
         self._name = name = number_of("name", name, 2**64 - 1)
         settings = LiveSettingsRecord(
             number_of("gap", gap, _NEVER, most_is_refused=True),
@@ -123,8 +129,8 @@ class LiveStation(Known):
 
         Frames with 11-bit identifiers, remote frames, error frames and frames of CAN FD are not handed over.
 
-        Raises Refused ID_TOO_LARGE, TOO_LONG, NO_STATION, QUEUE_FULL where as much waits as there is room for, and MemoryError: then the frame was
-        not heard, and may be handed over again.
+        Raises Refused ID_TOO_LARGE, TOO_LONG, NO_STATION, NOT_HELD where it has `most` NAMEs and holds no address, QUEUE_FULL where as much waits as
+        there is room for, and MemoryError: then the frame was not heard, and may be handed over again.
         """
         id = number_of("id", id, 2**32 - 1, most_is_refused=True)
         data = octets_of(data)
@@ -139,12 +145,24 @@ class LiveStation(Known):
             if withheld.value:
                 change = Change(What.NOTHING)
             else:
+                self._make_room(now)
                 done(library.hidzgula_live_hear(self._station, id, data, len(data), now, self._change))
                 self._look()
                 change = change_of(self._change)
         if message is not None and self.on_message is not None:
             self.on_message(message)
         return change
+
+    def _make_room(self, now: int) -> None:
+        """Makes room for the NAME of one more frame."""
+        status = self._ceiling.make_room(self._station)
+        if status == _ORDER_OPEN:
+            status = self._ceiling.make_room(self._station, times=2)
+        if status == _ORDER_OPEN:
+            done(library.hidzgula_live_end(self._station, now))
+            self._look()
+            status = self._ceiling.make_room(self._station)
+        done(status)
 
     def missed(self, count: int, now: int) -> Change:
         """Tells the station that `count` frames of the bus were missed, 0 to 2^32 - 1: it forgets which NAME owns which address, and all messages that

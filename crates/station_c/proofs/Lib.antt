@@ -1,4 +1,8 @@
 pub mod Answered
+pub mod Begun
+pub mod BegunListening
+pub mod BegunLive
+pub mod Claims
 pub mod HandleValues
 pub mod Keeping
 pub mod LineLemmas

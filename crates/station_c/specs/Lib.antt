@@ -1,3 +1,4 @@
+pub mod Anew
 pub mod Handles
 pub mod Held
 pub mod HeldUnits

@@ -8,9 +8,11 @@
 
 mod absent;
 mod changes;
+mod claims_told;
 mod exports;
 mod handle;
 mod heard_records;
+mod laws;
 mod listed_listener;
 mod listed_live;
 mod listed_station;
@@ -30,6 +32,7 @@ mod unit_records;
 pub use changes::ChangeRecord;
 pub use handle::StationHandle;
 pub use heard_records::{HeardRecord, SentRecord, WhoRecord};
+pub use laws::one_name_at_a_time;
 pub use listener_handle::ListenerHandle;
 pub use live_handle::LiveHandle;
 pub use live_records::{LiveSettingsRecord, VerdictRecord};

@@ -1,17 +1,21 @@
-ghost use Rattle.std.specs.Prelude.{◌≡◌, ◌↔◌, ◌⊎◌, ◌≤◌, ◌<◌, ◌∷◌, ℕ, List, [], None, Some, IfErr, IfOk, IfSome, IsErrOf, IsNone, IsSome, OnErr, OnOk, false, true};
+ghost use Rattle.std.specs.Prelude.{◌≡◌, ◌↔◌, ◌⊎◌, ◌≤◌, ◌<◌, ◌∷◌, ℕ, List, [], None, Some, length, IfErr, IfOk, IfSome, IsErrOf, IsNone, IsSome, OnErr, OnOk, false, is_some, true};
 ghost use Rattle.can_frame.specs.declared.address.TheConstants.{GREATEST_ADDRESS as GREATEST};
 ghost use Rattle.can_frame.specs.declared.reading.Reading.{Reading as AnyReading};
 ghost use Rattle.can_frame.specs.declared.reading.Reading.TheVariants.{Frame as FrameRead, Gap as GapRead};
 ghost use Rattle.bus_model.specs.Heard.{StationSettings};
+ghost use Rattle.live_station.specs.Ear.{frames_told};
 ghost use Rattle.live_station.specs.OpenOrders.{commands_too_far};
 ghost use Rattle.live_station.specs.Working.{DoesTurn, HearsOnBus, IsSentFromOwn, LacksRoomToHear, MissesFrames, begun_station, turn_at};
 ghost use Rattle.live_unit.specs.declared.queue.TheConstants.{MOST_PUT as MOST};
 ghost use Rattle.can_frame.specs.Fields.{source_of};
 ghost use Rattle.live_station.specs.Turns.{has_come};
-ghost use Rattle.shared_groups.specs.Sharing.{frame_due, is_sharable, is_shared, none_shared, with_waiting, sharing_also, without_first};
+ghost use Rattle.shared_groups.specs.Sharing.{followed, frame_due, is_sharable, is_shared, none_shared, with_waiting, sharing_also, without_first};
 ghost use Rattle.shared_groups.specs.declared.waiting.Waiting.TheVariants.{Request as RequestWaiting};
-ghost use Rattle.station_c.specs.ListedLives.{SharesFrame, StandsLive, newer_verdict, shared_goes, verdict_pulled, with_order, with_order_ended};
+ghost use Rattle.station_c.specs.Anew.{IsBeside, KeepsOwners, MakesRoomLive, StandsAfter, StandsAnewLive, claims_beside, with_frame};
+ghost use Rattle.station_c.specs.ListedLives.{ListedLiveValue, SharesFrame, StandsLive, newer_verdict, shared_goes, verdict_pulled, with_order, with_order_ended};
 
+use crate::claims_told::claim_beside;
+use crate::status::Status;
 use can_frame::{Frame, Pgn};
 use entry_lists::NewestEntries;
 use live_station::{
@@ -32,9 +36,13 @@ pub struct SharedHeard {
     pub is_whole: bool,
 }
 
-/// A live station, the lists that it fills, and the verdict of the newest order that ended.
+/// A live station, the lists that it fills, and the verdict of the newest order that ended; with its NAME, its grant and its times, so
+/// that it can be begun anew.
 #[derive(Drop)]
 pub struct ListedLive {
+    name: Name,
+    grant: u8,
+    times: StationTimes,
     live: LiveStation,
     lists: NewestEntries,
     last: Option<Verdict>,
@@ -42,17 +50,20 @@ pub struct ListedLive {
 }
 
 impl Model for ListedLive {
+    ghost use Rattle.station_c.specs.Anew.{IsLiveOf};
     ghost use Rattle.station_c.specs.ListedLives.{ListedLiveValue};
 
     ghost Value = { ListedLiveValue };
 
     ghost view = { λ s. record { live = s.live; lists = s.lists; last = s.last; shared = s.shared } };
+
+    ghost invariant = { λ s. IsLiveOf s.name s.grant s.times s.live };
 }
 
 impl ListedLive {
     /// A station of this NAME that holds the address that it wants, 0 to 253, and grants at most so many packets at once, at least one.
     /// It has heard nothing, and no order was given; of each list this many entries are kept, or none where it is 0.
-    #[tactic(auto, using(crate::proofs::LiveKeeping::stands_at_first))]
+    #[tactic(auto, using(crate::proofs::LiveKeeping::stands_at_first, crate::proofs::BegunLive::begins_so))]
     pub fn new(
         alloc: Global,
         name: Name,
@@ -70,6 +81,9 @@ impl ListedLive {
         let lists = NewestEntries::new(alloc, keep);
         let shared = SharedGroups::new(alloc, Some(want), grant)?;
         Ok(ListedLive {
+            name,
+            grant,
+            times,
             live,
             lists,
             last: None,
@@ -99,7 +113,7 @@ impl ListedLive {
     }
 
     /// Hears a frame; an entry that it lists is put into the lists, and a verdict is kept. `Full` and `OutOfMemory` leave all as it was.
-    #[tactic(auto, using(crate::proofs::LiveKeeping::stands_heard))]
+    #[tactic(auto, using(crate::proofs::LiveKeeping::stands_heard, crate::proofs::BegunLive::is_of_heard))]
     pub fn hear(&mut self, alloc: Global, frame: &Frame, now: u64) -> Result<Told, HearError>
         ensures heard { IfOk result (λ t. HearsOnBus frame.now now t self.old.live self.new.live) }
         ensures verdict { IfOk result (λ t. self.new.last ≡ newer_verdict t.verdict self.old.last) }
@@ -120,7 +134,7 @@ impl ListedLive {
     }
 
     /// Hears that so many frames were missed; a verdict is kept. `Full` and `OutOfMemory` leave all as it was.
-    #[tactic(auto, using(crate::proofs::LiveKeeping::stands_missed))]
+    #[tactic(auto, using(crate::proofs::LiveKeeping::stands_missed, crate::proofs::BegunLive::is_of_missed))]
     pub fn missed(&mut self, alloc: Global, count: u32, now: u64) -> Result<Told, HearError>
         ensures missed { IfOk result (λ t. MissesFrames count now t self.old.live self.new.live) }
         ensures verdict { IfOk result (λ t. self.new.last ≡ newer_verdict t.verdict self.old.last) }
@@ -141,7 +155,7 @@ impl ListedLive {
     }
 
     /// What goes at this time; a verdict is kept.
-    #[tactic(auto, using(crate::proofs::LiveKeeping::stands_pulled))]
+    #[tactic(auto, using(crate::proofs::LiveKeeping::stands_pulled, crate::proofs::BegunLive::is_of_pulled))]
     pub fn pull(&mut self, now: u64) -> Pulled
         ensures turn { DoesTurn (turn_at now self.old.live) now result self.old.live self.new.live }
         ensures source { IsSentFromOwn result self.old.live.station }
@@ -180,6 +194,116 @@ impl ListedLive {
     {
         let verdict = self.live.close(now);
         self.last = newer(verdict, self.last);
+    }
+
+    /// Makes room for one more NAME, of which there are to be this many at most, and at least one: where there are as many, the
+    /// station is begun anew at its address, with the claims of the NAMEs that hold others, if there are fewer. Answers whether it
+    /// was; what waited is let go then.
+    ///
+    /// Refused, in this order, where it is to begin anew: `OrderOpen` while an order is open, `NotHeld` where it holds no address,
+    /// `OutOfMemory`; then nothing changed.
+    #[tactic(auto, using(crate::proofs::BegunLive::begins_live, crate::proofs::BegunLive::room_there))]
+    pub fn make_room(&mut self, alloc: Global, most: usize) -> Result<bool, Status>
+        requires { 0 < most }
+        ensures made { IfOk result (λ anew. MakesRoomLive most self.old self.new anew) }
+        ensures order_open { IsErrOf result Status.OrderOpen ↔ ((most ≤ length self.old.live.station.rows) × IsSome self.old.live.order) }
+        ensures not_held { IsErrOf result Status.NotHeld
+            ↔ ((most ≤ length self.old.live.station.rows) × IsNone self.old.live.order × IsNone self.old.live.station.claimer.held) }
+        ensures only { IfErr result (λ e. (e ≡ Status.OrderOpen) ⊎ ((e ≡ Status.NotHeld) ⊎ (e ≡ Status.OutOfMemory))) }
+        ensures err { OnErr result (self.new ≡ self.old) }
+    {
+        if self.live.station().names() < most {
+            return Ok(false);
+        }
+        if self.has_order() {
+            return Err(Status::OrderOpen);
+        }
+        let Some(address) = self.live.held() else {
+            return Err(Status::NotHeld);
+        };
+        let Ok(fresh) = self.anew(alloc, address, most) else {
+            return Err(Status::OutOfMemory);
+        };
+        self.go_on_as(fresh, address);
+        Ok(true)
+    }
+
+    /// Whether an order is open.
+    #[tactic(auto, using(crate::proofs::BegunLive::open_is))]
+    fn has_order(&self) -> bool
+        ensures { result ≡ is_some self.now.live.order }
+    {
+        self.live.open().is_some()
+    }
+
+    /// Goes on as another one that holds this address, with its own newest verdict, and the groups that are shared with it.
+    fn go_on_as(&mut self, mut fresh: ListedLive, address: u8)
+        ensures { self.new ≡ record { live = fresh.live; lists = fresh.lists; last = self.old.last; shared = followed (Some address) self.old.shared } }
+    {
+        fresh.last = self.last;
+        std::mem::swap(&mut self.shared, &mut fresh.shared);
+        fresh.shared.follow(Some(address));
+        *self = fresh;
+    }
+
+    /// A station at this address that is told of the owners of others alone, or of nothing where these are too many.
+    #[tactic(auto, using(crate::proofs::BegunLive::anew_with, crate::proofs::BegunLive::anew_without, crate::proofs::BegunLive::room_without))]
+    fn anew(&self, alloc: Global, address: u8, most: usize) -> Result<ListedLive, HearError>
+        requires address_fits { address ≤ GREATEST }
+        requires some { 0 < most }
+        ensures anew { IfOk result (λ s. StandsAnewLive address most self.now s) }
+        ensures room { IfOk result (λ s. length s.live.station.rows < most) }
+    {
+        let fresh = self.with_owners(alloc, address)?;
+        if fresh.live.station().names() < most {
+            return Ok(fresh);
+        }
+        self.with_nobody(alloc, address)
+    }
+
+    /// A station at this address that has heard nothing.
+    #[tactic(auto, using(crate::proofs::BegunLive::nobody_heard))]
+    fn with_nobody(&self, alloc: Global, address: u8) -> Result<ListedLive, HearError>
+        requires { address ≤ GREATEST }
+        ensures { IfOk result (λ s. StandsAfter address self.now s []) }
+    {
+        let keep = self.lists.keep();
+        match ListedLive::new(alloc, self.name, address, self.grant, keep, self.times) {
+            Ok(fresh) => Ok(fresh),
+            Err(_) => Err(HearError::OutOfMemory),
+        }
+    }
+
+    /// A station at this address that is told of each NAME that holds another one.
+    fn with_owners(&self, alloc: Global, address: u8) -> Result<ListedLive, HearError>
+        requires { address ≤ GREATEST }
+        ensures stands { IfOk result (λ s. StandsAfter address self.now s (claims_beside address self.now.live.station.owners self.now.live.station.rows)) }
+        ensures owners { OnOk result (KeepsOwners self.now.live.station.owners (frames_told (record { name = self.now.live.station.claimer.name; address = address })
+            (claims_beside address self.now.live.station.owners self.now.live.station.rows))) }
+    {
+        let mut fresh = self.with_nobody(alloc, address)?;
+        for place in 0..self.live.station().names() {
+            if let Some(name) = self.live.station().name_at(place) {
+                let claim = claim_beside(self.live.station(), name, address);
+                fresh.hear_claim(alloc, claim)?;
+            }
+        }
+        Ok(fresh)
+    }
+
+    /// Hears a claim, if there is one, of another address than it holds: at any time, since no order is open.
+    #[tactic(auto, using(crate::proofs::BegunLive::heard_none))]
+    fn hear_claim(&mut self, alloc: Global, claim: Option<Frame>) -> Result<(), HearError>
+        ensures { OnOk result ((address : ℕ) (old : ListedLiveValue) (h : List AnyReading) → IfSome claim (λ f. IsBeside address f)
+            → StandsAfter address old self.old h → StandsAfter address old self.new (with_frame claim h)) }
+    {
+        match claim {
+            Some(claim) => {
+                let _told = self.hear(alloc, &claim, 0)?;
+                Ok(())
+            }
+            None => Ok(()),
+        }
     }
 
     /// The groups that the program shares with the station.

@@ -1,0 +1,27 @@
+use Rattle.std.proofs.Common.{rules, ◌≡◌, ℕ, List, Option, map, subst}
+use Rattle.can_frame.specs.FrameValue.{FrameValue}
+use Rattle.listener.specs.ListenerValue.{gaps_alone}
+use Rattle.station_c.specs.Anew.{IsQuietAs, claim_told, holds}
+use Rattle.station_c.specs.ListedListeners.{ListedListenerValue}
+use Rattle.station_c.proofs.BegunListening.{heard_next}
+use Rattle.station_c.proofs.Claims.{name_is_there, owners_next}
+use Rattle.station_c.proofs.listed_listener.ListedListener.with_owners.Goals as goal
+use Rattle.station_c.proofs.listed_listener.ListedListener.with_owners.Goals.{in-Some+in_ok-tell, in_default}
+
+pub loop-place-preserved : goal.loop-place-preserved
+loop-place-preserved c =
+    let ear = c.args.self.now.ear.listener in
+    let claim : ℕ → Option FrameValue = λ n. claim_told n (holds ear.owners ear.rows n) in
+    let names : List ℕ = map (λ e. e.0) ear.rows in
+    elim c.match-name_at.branch [
+      | in-Some+in_ok-tell w ↦
+          (let joined : w.tell.new.self ≡ c.match-name_at.fresh = search rules in
+          record {
+            heard = heard_next c.loop-place.fresh w.tell.new.self c.match-name_at.fresh claim names c.loop-place.place w.in-Some.name w.claim_held-claim.result (gaps_alone ear.gaps)
+                (search rules) w.claim_held-claim.ensures.told w.in_ok-tell.ensures.heard joined c.loop-place.invariant.heard;
+            owners = owners_next ear.owners claim names c.loop-place.place w.in-Some.name w.claim_held-claim.result (gaps_alone ear.gaps)
+                (search rules) w.claim_held-claim.ensures.told w.claim_held-claim.ensures.owned c.loop-place.invariant.owners;
+            quiet = subst (λ (v : ListedListenerValue). IsQuietAs c.args.self.now v) joined (w.in_ok-tell.ensures.quiet c.args.self.now c.loop-place.invariant.quiet);
+          })
+      | in_default w ↦ name_is_there ear.rows c.loop-place.place _ c.loop-place-test.true (search rules) (search rules)
+    ]

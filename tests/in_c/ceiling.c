@@ -45,7 +45,7 @@ void __wrap_free(void *block)
 
 enum { OWN = 249 };
 
-/* the bytes that docs/C.md tells of: so many NAMEs, of each list so many messages kept */
+/* the bytes that it may take: so many NAMEs, of each list so many messages kept */
 static size_t stated(size_t names, size_t keep) { return 1000000 + names * (500 + 3 * keep * 4096); }
 
 static hidzgula_station station = HIDZGULA_EMPTY;
@@ -204,7 +204,7 @@ static void longest(uint8_t source, uint32_t pgn)
     if (change.what != HIDZGULA_LISTED || change.name != owner[source]) found.wrong++;
 }
 
-/* each NAME has as many of the longest messages in its lists as are kept, and more: the most that there can be; what is stated is no more than
+/* each NAME has as many of the longest messages in its lists as are kept, and more: the most that there can be; what may be is no more than
  * a half beyond */
 static void full_lists(size_t most, uint32_t keep)
 {
@@ -287,6 +287,24 @@ static void what_is_known(void)
     is("no room for two", hidzgula_make_room(&station, 2, &anew), HIDZGULA_DONE);
     hidzgula_rows(&station, &rows);
     is("begun anew with none", anew * 256u + rows, 256);
+    hidzgula_close(&station);
+}
+
+/* a NAME that contended for the station's own address, and lost, is not told to it again */
+static void own_address(void)
+{
+    uint8_t anew = 0, has = 0, address = 0;
+    size_t rows = 0;
+    is("open", hidzgula_open(&station, 0x9000000000000001u, OWN, 255, 16), HIDZGULA_DONE);
+    claim(0xF000000000000001u, OWN);
+    row_is(0, 0xF000000000000001u, OWN);
+    claim(0xA1, 1);
+    is("no room", hidzgula_make_room(&station, 2, &anew), HIDZGULA_DONE);
+    hidzgula_rows(&station, &rows);
+    is("begun anew with the other one", anew * 256u + rows, 257);
+    row_is(0, 0xA1, 1);
+    hidzgula_held(&station, &has, &address);
+    is("its own address", has * 256u + address, 256u + OWN);
     hidzgula_close(&station);
 }
 
@@ -380,6 +398,7 @@ int main(int argc, char **argv)
     const size_t frames = argc > 1 ? strtoul(argv[1], NULL, 10) : 1000000;
     refusals();
     what_is_known();
+    own_address();
     refused_in_turn();
     live_anew();
     station_at(1000, 16, frames);

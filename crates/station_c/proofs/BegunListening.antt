@@ -1,5 +1,5 @@
 -- What stands anew of a listener, which is told a claim at a time.
-use Rattle.std.proofs.Common.{◌≡◌, ◌⊎◌, inl, inr, ◌<◌, ◌≤◌, ℕ, Bool, true, false, zero, suc, List, [], ◌∷◌, Option, Some, None, Result, Ok, Err, OnOk, ◌+◌, length, map, take, refl, sym, ap, ◌∙◌, subst}
+use Rattle.std.proofs.Common.{◌≡◌, ◌⊎◌, inl, inr, ◌<◌, ◌≤◌, ℕ, Bool, true, false, zero, suc, List, [], ◌∷◌, Option, Some, None, ◌+◌, length, map, take, refl, sym, ap, ◌∙◌, subst}
 use Rattle.std.proofs.lemmas.List.{length-map}
 use Rattle.std.specs.Prelude.{slice_get}
 use Rattle.bus_model.specs.Heard.{names_heard}
@@ -27,18 +27,14 @@ pub nobody_heard : (ear : PacedValue) (lists : NewestSentValue) (broken : List B
 nobody_heard ear lists broken count n heard kept = (heard, gaps_overheard lists n kept)
 
 -- a claim was heard, and is behind what was heard before
-pub heard_claim : (old : ListedListenerValue) (was ear : PacedValue) (were lists : NewestSentValue) (broken : List BrokenMessage) (count : ℕ) (x : Reading) (entry : Option SentEntry) (c : Overheard)
-    → record { ear = was; lists = were; broken = broken; broken_count = count } ≡ old
-    → IsHeard HasNewestSent was.listener ear.listener were lists x entry c
-    → (h : List Reading) → HasHeard old h → HasHeard (record { ear = ear; lists = lists; broken = broken; broken_count = count }) (x ∷ h)
-heard_claim old was ear were lists broken count x entry c view is h has =
+pub heard_some : (old : ListedListenerValue) (was ear : PacedValue) (were lists : NewestSentValue) (broken : List BrokenMessage) (count : ℕ) (o : Option FrameValue) (f : FrameValue) (entry : Option SentEntry) (c : Overheard)
+    → record { ear = was; lists = were; broken = broken; broken_count = count } ≡ old → o ≡ Some f
+    → IsHeard HasNewestSent was.listener ear.listener were lists (Frame f) entry c
+    → (h : List Reading) → HasHeard old h → HasHeard (record { ear = ear; lists = lists; broken = broken; broken_count = count }) (with_frame o h)
+heard_some old was ear were lists broken count o f entry c view e is h has =
     let before : HasHeard (record { ear = was; lists = were; broken = broken; broken_count = count }) h = subst (λ (v : ListedListenerValue). HasHeard v h) (sym view) has in
-    (is.stands h before.0, overheard_more were lists x h (is.listed h before.0) before.1)
-
-pub heard_if : {T E : Type 0} (result : Result T E) (was after : ListedListenerValue) (o : Option FrameValue) (f : FrameValue) → o ≡ Some f
-    → OnOk result ((h : List Reading) → HasHeard was h → HasHeard after (Frame f ∷ h)) → OnOk result ((h : List Reading) → HasHeard was h → HasHeard after (with_frame o h))
-heard_if (Ok x) was after o f e hears = λ h has. subst (λ (p : Option FrameValue). HasHeard after (with_frame p h)) (sym e) (hears h has)
-heard_if (Err y) was after o f e hears = hears
+    subst (λ (p : Option FrameValue). HasHeard (record { ear = ear; lists = lists; broken = broken; broken_count = count }) (with_frame p h)) (sym e)
+    (is.stands h before.0, overheard_more were lists (Frame f) h (is.listed h before.0) before.1)
 
 pub heard_none : (was after : ListedListenerValue) (o : Option FrameValue) → o ≡ None → after ≡ was → (h : List Reading) → HasHeard was h → HasHeard after (with_frame o h)
 heard_none was after o e same h has =

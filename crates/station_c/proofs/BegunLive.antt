@@ -1,5 +1,5 @@
 -- What stands anew of a live station: it is of the same NAME, grant and times through each call, and hears a claim at a time.
-use Rattle.std.proofs.Common.{◌≡◌, ◌⊎◌, inl, inr, ◌<◌, ◌≤◌, ℕ, Bool, true, false, List, [], ◌∷◌, Option, Some, None, IfSome, is_some, option_map, ◌+◌, length, map, take, if◌then◌else◌, refl, sym, ap, ◌∙◌, subst}
+use Rattle.std.proofs.Common.{◌≡◌, ◌⊎◌, inl, inr, ◌<◌, ◌≤◌, ℕ, Bool, true, false, List, [], ◌∷◌, Option, Some, None, Result, Ok, Err, IfOk, OnErr, IfSome, is_some, option_map, ◌+◌, length, map, take, if◌then◌else◌, refl, sym, ap, ◌∙◌, subst}
 use Rattle.std.proofs.lemmas.List.{length-map}
 use Rattle.std.specs.Prelude.{slice_get}
 use Rattle.bus_model.specs.Heard.{StationSettings, names_heard}
@@ -8,6 +8,7 @@ use Rattle.can_frame.specs.declared.reading.Reading.{Reading}
 use Rattle.can_frame.specs.declared.reading.Reading.TheVariants.{Frame}
 use Rattle.live_station.specs.Ear.{frames_told, is_own}
 use Rattle.live_station.specs.Working.{DoesDeed, DoesTurn, HearsOnBus, MissesFrames, WorkingValue, after_missing, after_stranger, after_told, begun_station, turn_at}
+use Rattle.live_station.specs.declared.error.HearError.{HearError}
 use Rattle.live_station.specs.declared.open.OpenOrder.{OpenOrder}
 use Rattle.live_station.specs.declared.pulled.Pulled.{Pulled}
 use Rattle.live_station.specs.declared.pulled.Told.{Told}
@@ -59,6 +60,17 @@ pub is_of_missed : (name grant : ℕ) (times : StationTimes) (count now : ℕ) (
     → IsLiveOf name grant times s → IsLiveOf name grant times s'
 is_of_missed name grant times count now t s s' missed is =
     subst (λ (v : WorkingValue). IsLiveOf name grant times v) (sym missed.is) (record { station = is.station; settings = is.settings })
+
+-- at a call's answer
+pub is_of_hearing : (result : Result Told HearError) (name grant : ℕ) (times : StationTimes) (f : FrameValue) (now : ℕ) (s s' : WorkingValue)
+    → IfOk result (λ t. HearsOnBus f now t s s') → OnErr result (s' ≡ s) → IsLiveOf name grant times s → IsLiveOf name grant times s'
+is_of_hearing (Ok t) name grant times f now s s' heard same is = is_of_heard name grant times f now t s s' heard is
+is_of_hearing (Err e) name grant times f now s s' heard same is = subst (λ (v : WorkingValue). IsLiveOf name grant times v) (sym same) is
+
+pub is_of_missing : (result : Result Told HearError) (name grant : ℕ) (times : StationTimes) (count now : ℕ) (s s' : WorkingValue)
+    → IfOk result (λ t. MissesFrames count now t s s') → OnErr result (s' ≡ s) → IsLiveOf name grant times s → IsLiveOf name grant times s'
+is_of_missing (Ok t) name grant times count now s s' missed same is = is_of_missed name grant times count now t s s' missed is
+is_of_missing (Err e) name grant times count now s s' missed same is = subst (λ (v : WorkingValue). IsLiveOf name grant times v) (sym same) is
 
 of_deed : (name grant : ℕ) (times : StationTimes) (d : Deed) (now : ℕ) (o : OpenOrder) (p : Pulled) (s s' : WorkingValue) → DoesDeed d now o p s s' → IsLiveOf name grant times s → IsLiveOf name grant times s'
 of_deed name grant times deed.Nothing now o p s s' does is = same_of name grant times s s' (ap (λ (w : WorkingValue). w.station) does.1) (ap (λ (w : WorkingValue). w.settings) does.1) is

@@ -1,8 +1,7 @@
-ghost use Rattle.std.specs.Prelude.{◌≡◌, ◌⊎◌, ◌≤◌, ◌<◌, ◌∷◌, List, [], IfOk, OnOk, OnErr, length, true, false};
+ghost use Rattle.std.specs.Prelude.{◌≡◌, ◌⊎◌, ◌≤◌, ◌<◌, List, [], IfOk, IfSome, OnOk, OnErr, length, true, false};
 ghost use Rattle.can_frame.specs.declared.reading.Reading.{Reading as AnyReading};
-ghost use Rattle.can_frame.specs.declared.reading.Reading.TheVariants.{Frame as FrameRead};
 ghost use Rattle.listener.specs.ListenerValue.{gaps_alone};
-ghost use Rattle.station_c.specs.Anew.{BeginsAnewListening, HasRoom, IsQuietAs, KeepsOwners, MakesRoomListening, claims_held, with_frame};
+ghost use Rattle.station_c.specs.Anew.{BeginsAnewListening, HasRoom, IsOwners, IsQuietAs, KeepsOwners, MakesRoomListening, claim_told, claims_held, holds, with_frame};
 ghost use Rattle.station_c.specs.HeardSeries.{OverhearsFrame, HearsGap, time_handed};
 ghost use Rattle.station_c.specs.ListedListeners.{HasHeard, KnowsOfNone, ListedListenerValue, TakesFrame, TakesGap};
 
@@ -15,6 +14,7 @@ use listener::{
     BrokenMessage, BrokenMessages, Listener, NewestSent, Overheard, PacedListener, Silence,
     was_whole,
 };
+use name_field::Name;
 use parameter_group::ParameterGroup;
 use std::alloc::{AllocError, Global};
 use std::marker::Model;
@@ -201,35 +201,36 @@ impl ListedListener {
         let mut fresh = self.with_nobody(alloc)?;
         for place in 0..self.ear.listener().names() {
             if let Some(name) = self.ear.listener().name_at(place) {
-                let claim = claim_held(self.ear.listener(), name);
+                let claim = self.claim_held(name);
                 fresh.tell(alloc, claim)?;
             }
         }
         Ok(fresh)
     }
 
-    /// Is told a claim, if there is one.
+    /// The claim of a NAME that holds an address.
+    fn claim_held(&self, name: Name) -> Option<Frame>
+        ensures told { result ≡ claim_told name (holds self.now.ear.listener.owners self.now.ear.listener.rows name) }
+        ensures owned { IfSome result (λ f. IsOwners self.now.ear.listener.owners f) }
+    {
+        claim_held(self.ear.listener(), name)
+    }
+
+    /// Is told a claim, if there is one, whatever is under way.
     #[tactic(auto, using(crate::proofs::BegunListening::heard_none))]
     fn tell(&mut self, alloc: Global, claim: Option<Frame>) -> Result<(), AllocError>
         ensures heard { OnOk result ((h : List AnyReading) → HasHeard self.old h → HasHeard self.new (with_frame claim h)) }
         ensures quiet { OnOk result ((old : ListedListenerValue) → IsQuietAs old self.old → IsQuietAs old self.new) }
     {
         match claim {
-            Some(claim) => self.hear_claim(alloc, claim),
+            Some(claim) => {
+                let _change = self
+                    .ear
+                    .take(alloc, Reading::Frame(claim), &mut self.lists)?;
+                Ok(())
+            }
             None => Ok(()),
         }
-    }
-
-    /// Hears a claim, whatever is under way.
-    #[tactic(auto, using(crate::proofs::BegunListening::heard_claim, crate::proofs::BegunListening::quiet_claim))]
-    fn hear_claim(&mut self, alloc: Global, claim: Frame) -> Result<(), AllocError>
-        ensures heard { OnOk result ((h : List AnyReading) → HasHeard self.old h → HasHeard self.new (FrameRead claim ∷ h)) }
-        ensures quiet { OnOk result ((old : ListedListenerValue) → IsQuietAs old self.old → IsQuietAs old self.new) }
-    {
-        let _change = self
-            .ear
-            .take(alloc, Reading::Frame(claim), &mut self.lists)?;
-        Ok(())
     }
 }
 

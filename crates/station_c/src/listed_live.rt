@@ -11,7 +11,7 @@ ghost use Rattle.can_frame.specs.Fields.{source_of};
 ghost use Rattle.live_station.specs.Turns.{has_come};
 ghost use Rattle.shared_groups.specs.Sharing.{followed, frame_due, is_sharable, is_shared, none_shared, with_waiting, sharing_also, without_first};
 ghost use Rattle.shared_groups.specs.declared.waiting.Waiting.TheVariants.{Request as RequestWaiting};
-ghost use Rattle.station_c.specs.Anew.{IsBeside, KeepsOwners, MakesRoomLive, StandsAfter, StandsAnewLive, claims_beside, with_frame};
+ghost use Rattle.station_c.specs.Anew.{IsBeside, IsOwners, KeepsOwners, MakesRoomLive, StandsAfter, StandsAnewLive, but, claim_told, claims_beside, holds, with_frame};
 ghost use Rattle.station_c.specs.ListedLives.{ListedLiveValue, SharesFrame, StandsLive, newer_verdict, shared_goes, verdict_pulled, with_order, with_order_ended};
 
 use crate::claims_told::claim_beside;
@@ -113,7 +113,7 @@ impl ListedLive {
     }
 
     /// Hears a frame; an entry that it lists is put into the lists, and a verdict is kept. `Full` and `OutOfMemory` leave all as it was.
-    #[tactic(auto, using(crate::proofs::LiveKeeping::stands_heard, crate::proofs::BegunLive::is_of_heard))]
+    #[tactic(auto, using(crate::proofs::LiveKeeping::stands_heard))]
     pub fn hear(&mut self, alloc: Global, frame: &Frame, now: u64) -> Result<Told, HearError>
         ensures heard { IfOk result (λ t. HearsOnBus frame.now now t self.old.live self.new.live) }
         ensures verdict { IfOk result (λ t. self.new.last ≡ newer_verdict t.verdict self.old.last) }
@@ -134,7 +134,7 @@ impl ListedLive {
     }
 
     /// Hears that so many frames were missed; a verdict is kept. `Full` and `OutOfMemory` leave all as it was.
-    #[tactic(auto, using(crate::proofs::LiveKeeping::stands_missed, crate::proofs::BegunLive::is_of_missed))]
+    #[tactic(auto, using(crate::proofs::LiveKeeping::stands_missed))]
     pub fn missed(&mut self, alloc: Global, count: u32, now: u64) -> Result<Told, HearError>
         ensures missed { IfOk result (λ t. MissesFrames count now t self.old.live self.new.live) }
         ensures verdict { IfOk result (λ t. self.new.last ≡ newer_verdict t.verdict self.old.last) }
@@ -155,7 +155,7 @@ impl ListedLive {
     }
 
     /// What goes at this time; a verdict is kept.
-    #[tactic(auto, using(crate::proofs::LiveKeeping::stands_pulled, crate::proofs::BegunLive::is_of_pulled))]
+    #[tactic(auto, using(crate::proofs::LiveKeeping::stands_pulled))]
     pub fn pull(&mut self, now: u64) -> Pulled
         ensures turn { DoesTurn (turn_at now self.old.live) now result self.old.live self.new.live }
         ensures source { IsSentFromOwn result self.old.live.station }
@@ -284,11 +284,20 @@ impl ListedLive {
         let mut fresh = self.with_nobody(alloc, address)?;
         for place in 0..self.live.station().names() {
             if let Some(name) = self.live.station().name_at(place) {
-                let claim = claim_beside(self.live.station(), name, address);
+                let claim = self.claim_beside(name, address);
                 fresh.hear_claim(alloc, claim)?;
             }
         }
         Ok(fresh)
+    }
+
+    /// The claim of a NAME that holds another address than this.
+    fn claim_beside(&self, name: Name, own: u8) -> Option<Frame>
+        ensures told { result ≡ claim_told name (but own (holds self.now.live.station.owners self.now.live.station.rows name)) }
+        ensures beside { IfSome result (λ f. IsBeside own f) }
+        ensures owned { IfSome result (λ f. IsOwners self.now.live.station.owners f) }
+    {
+        claim_beside(self.live.station(), name, own)
     }
 
     /// Hears a claim, if there is one, of another address than it holds: at any time, since no order is open.

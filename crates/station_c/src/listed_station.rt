@@ -4,7 +4,7 @@ ghost use Rattle.bus_model.specs.Heard.{StationSettings};
 ghost use Rattle.can_frame.specs.declared.address.TheConstants.{GREATEST_ADDRESS as GREATEST};
 ghost use Rattle.can_frame.specs.declared.reading.Reading.{Reading as AnyReading};
 ghost use Rattle.entry_lists.specs.Newest.{KeepsNewest};
-ghost use Rattle.station_c.specs.Anew.{IsBeside, KeepsOwners, MakesRoom, StandsAnew, StandsListed, claims_beside, with_frame};
+ghost use Rattle.station_c.specs.Anew.{IsBeside, IsOwners, KeepsOwners, MakesRoom, StandsAnew, StandsListed, but, claim_told, claims_beside, holds, with_frame};
 ghost use Rattle.station_table.specs.Listing.{lists_heard};
 ghost use Rattle.station_table.specs.Reactions.{station_reaction};
 ghost use Rattle.station_table.specs.StandsFor.{StandsFor};
@@ -148,11 +148,20 @@ impl ListedStation {
         let mut fresh = self.with_nobody(alloc, address);
         for place in 0..self.station.names() {
             if let Some(name) = self.station.name_at(place) {
-                let claim = claim_beside(&self.station, name, address);
+                let claim = self.claim_beside(name, address);
                 fresh.tell(alloc, claim)?;
             }
         }
         Ok(fresh)
+    }
+
+    /// The claim of a NAME that holds another address than this.
+    fn claim_beside(&self, name: Name, own: u8) -> Option<Frame>
+        ensures told { result ≡ claim_told name (but own (holds self.now.station.owners self.now.station.rows name)) }
+        ensures beside { IfSome result (λ f. IsBeside own f) }
+        ensures owned { IfSome result (λ f. IsOwners self.now.station.owners f) }
+    {
+        claim_beside(&self.station, name, own)
     }
 
     /// Is told a claim, if there is one, of another address than it holds.

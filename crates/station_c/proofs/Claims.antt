@@ -117,9 +117,10 @@ more_told P Q claim names i n told first at is tells before =
     (ap (λ (o : Option FrameValue). with_frame o (with_claims claim (take i names) first)) is ∙ claim_more claim names i n first at)
     (tells (with_claims claim (take i names) first) before)
 
-pub claims_all : (claim : ℕ → Option FrameValue) (rows : List (ℕ × KeptValue)) (n : ℕ) (h : List Reading) → n ≡ length rows
-    → with_claims claim (take n (map (λ e. e.0) rows)) h ≡ with_claims claim (map (λ e. e.0) rows) h
-claims_all claim rows n h e = ap (λ ns. with_claims claim ns h) (take_all n (map (λ e. e.0) rows) (omega (arith, length-map rows (λ e. e.0), e)))
+-- all were told, behind the last place
+pub claims_all : (claim : ℕ → Option FrameValue) (rows : List (ℕ × KeptValue)) (place n : ℕ) (h : List Reading) → n ≤ place → place ≤ n → n ≡ length rows
+    → with_claims claim (take place (map (λ e. e.0) rows)) h ≡ with_claims claim (map (λ e. e.0) rows) h
+claims_all claim rows place n h low high e = ap (λ ns. with_claims claim ns h) (take_all place (map (λ e. e.0) rows) (omega (arith, length-map rows (λ e. e.0), e, low, high)))
 
 -- within the list there is a NAME
 pub name_is_there : {P : Type 0} (rows : List (ℕ × KeptValue)) (i n : ℕ) → i < n → n ≡ length rows → None ≡ slice_get (map (λ e. e.0) rows) i → P

@@ -185,11 +185,9 @@ impl ListedListener {
     {
         let gaps = self.ear.listener().gaps();
         let ear = PacedListener::after_gaps(alloc, self.ear.silence(), gaps)?;
-        Ok(ListedListener {
-            ear,
-            lists: NewestSent::new(alloc, self.lists.keep()),
-            broken: BrokenMessages::new(alloc, self.broken.count()),
-        })
+        let lists = NewestSent::new(alloc, self.lists.keep());
+        let broken = BrokenMessages::new(alloc, self.broken.count());
+        Ok(ListedListener { ear, lists, broken })
     }
 
     /// A listener that is told of each NAME that holds an address.

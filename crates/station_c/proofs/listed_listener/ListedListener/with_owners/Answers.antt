@@ -1,10 +1,11 @@
 use Rattle.std.proofs.Common.{rules, ◌≡◌, ℕ, List, Option, map, subst}
 use Rattle.can_frame.specs.FrameValue.{FrameValue}
+use Rattle.can_frame.specs.declared.reading.Reading.{Reading}
 use Rattle.listener.specs.ListenerValue.{gaps_alone}
-use Rattle.station_c.specs.Anew.{IsQuietAs, claim_told, holds}
-use Rattle.station_c.specs.ListedListeners.{ListedListenerValue}
+use Rattle.station_c.specs.Anew.{IsQuietAs, KeepsOwners, claim_told, holds}
+use Rattle.station_c.specs.ListedListeners.{HasHeard, ListedListenerValue}
 use Rattle.station_c.proofs.BegunListening.{heard_next}
-use Rattle.station_c.proofs.Claims.{name_is_there, owners_next}
+use Rattle.station_c.proofs.Claims.{claims_all, name_is_there, owners_next}
 use Rattle.station_c.proofs.listed_listener.ListedListener.with_owners.Goals as goal
 use Rattle.station_c.proofs.listed_listener.ListedListener.with_owners.Goals.{in-Some+in_ok-tell, in_default}
 
@@ -25,3 +26,17 @@ loop-place-preserved c =
           })
       | in_default w ↦ name_is_there ear.rows c.loop-place.place _ c.loop-place-test.true (search rules) (search rules)
     ]
+
+pub returns-clause-heard : goal.returns-clause-heard
+returns-clause-heard c =
+    let ear = c.args.self.now.ear.listener in
+    let claim : ℕ → Option FrameValue = λ n. claim_told n (holds ear.owners ear.rows n) in
+    subst (λ (h : List Reading). HasHeard c.loop-place.fresh h)
+    (claims_all claim ear.rows c.loop-place.place _ (gaps_alone ear.gaps) c.loop-place-test.false c.loop-place.auto.place-end (search rules)) c.loop-place.invariant.heard
+
+pub returns-clause-owners : goal.returns-clause-owners
+returns-clause-owners c =
+    let ear = c.args.self.now.ear.listener in
+    let claim : ℕ → Option FrameValue = λ n. claim_told n (holds ear.owners ear.rows n) in
+    subst (λ (h : List Reading). KeepsOwners ear.owners h)
+    (claims_all claim ear.rows c.loop-place.place _ (gaps_alone ear.gaps) c.loop-place-test.false c.loop-place.auto.place-end (search rules)) c.loop-place.invariant.owners

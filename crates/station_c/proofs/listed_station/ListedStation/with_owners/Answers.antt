@@ -1,8 +1,9 @@
-use Rattle.std.proofs.Common.{rules, ℕ, List, [], Option, map}
+use Rattle.std.proofs.Common.{rules, ℕ, List, [], Option, map, subst}
 use Rattle.can_frame.specs.FrameValue.{FrameValue}
-use Rattle.station_c.specs.Anew.{but, claim_told, holds}
+use Rattle.can_frame.specs.declared.reading.Reading.{Reading}
+use Rattle.station_c.specs.Anew.{KeepsOwners, StandsListed, but, claim_told, holds}
 use Rattle.station_c.proofs.Begun.{listed_next}
-use Rattle.station_c.proofs.Claims.{name_is_there, owners_next}
+use Rattle.station_c.proofs.Claims.{claims_all, name_is_there, owners_next}
 use Rattle.station_c.proofs.listed_station.ListedStation.with_owners.Goals as goal
 use Rattle.station_c.proofs.listed_station.ListedStation.with_owners.Goals.{in-Some+in_ok-tell, in_default}
 
@@ -22,3 +23,17 @@ loop-place-preserved c =
       }
       | in_default w ↦ name_is_there station.rows c.loop-place.place _ c.loop-place-test.true (search rules) (search rules)
     ]
+
+pub returns-clause-stands : goal.returns-clause-stands
+returns-clause-stands c =
+    let station = c.args.self.now.station in
+    let claim : ℕ → Option FrameValue = λ n. claim_told n (but c.args.address (holds station.owners station.rows n)) in
+    subst (λ (h : List Reading). StandsListed (record { name = station.claimer.name; address = c.args.address }) station.grant c.args.self.now.lists.keep c.loop-place.fresh h)
+    (claims_all claim station.rows c.loop-place.place _ [] c.loop-place-test.false c.loop-place.auto.place-end (search rules)) c.loop-place.invariant.stands
+
+pub returns-clause-owners : goal.returns-clause-owners
+returns-clause-owners c =
+    let station = c.args.self.now.station in
+    let claim : ℕ → Option FrameValue = λ n. claim_told n (but c.args.address (holds station.owners station.rows n)) in
+    subst (λ (h : List Reading). KeepsOwners station.owners h)
+    (claims_all claim station.rows c.loop-place.place _ [] c.loop-place-test.false c.loop-place.auto.place-end (search rules)) c.loop-place.invariant.owners

@@ -33,7 +33,7 @@ same_of name grant times s s' station settings is =
     record { station = subst (λ (v : StationValue). IsOf name grant v) (sym station) is.station; settings = settings ∙ is.settings }
 
 pub begins_so : (name want grant : ℕ) (times : StationTimes) (s : WorkingValue) → s ≡ begun_station name want grant times → 0 < grant → IsLiveOf name grant times s
-begins_so name want grant times s e some = subst (λ (v : WorkingValue). IsLiveOf name grant times v) (sym e) (record { station = (refl, (refl, some)); settings = refl })
+begins_so name want grant times s e some = subst (λ (v : WorkingValue). IsLiveOf name grant times v) (sym e) (record { station = (refl, refl, some); settings = refl })
 
 -- somebody else's frame from the station's own address, or one of its own
 by_stranger : (name grant : ℕ) (times : StationTimes) (now : ℕ) (b : Bool) (s : WorkingValue) → IsLiveOf name grant times s

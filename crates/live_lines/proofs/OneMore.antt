@@ -1,5 +1,5 @@
 -- A list of which the element at an index is changed as those before it were.
-use Rattle.std.proofs.Common.{ℕ, ◌≡◌, ◌<◌, ◌≤◌, ◌+◌, ◌⊎◌, inl, inr, suc, zero, ◌≢◌, refl, List, ◌++◌, length, take, get_or, set, subst, sym, ap, ◌∙◌, Option, Some, None, IfSome, arith}
+use Rattle.std.proofs.Common.{ℕ, ◌≡◌, ◌<◌, ◌≤◌, ◌+◌, ◌⊎◌, inl, inr, List, ◌++◌, length, take, get_or, set, subst, sym, ap, ◌∙◌, Option, Some, None, IfSome, arith}
 use Rattle.std.proofs.Math.Nat.{eq-or-lt_of_le}
 use Rattle.std.proofs.Math.Seq.{take-append_seam}
 use Rattle.std.proofs.lemmas.List.{length-set, get_or_default, get_or-set_same, get_or-set_other}
@@ -24,21 +24,6 @@ rest_so xs ys i v rest k d l = get_or-set_other ys i k v d (λ e. absurd (omega 
 -- a list that is written over the front of another one as long
 pub put_back : {A : Type 0} (xs ys : List A) (n : ℕ) → n ≡ length xs → take n (xs ++ ys) ≡ xs
 put_back xs ys n e = ap (λ k. take k (xs ++ ys)) e ∙ take-append_seam xs ys
-
-same_or_not : (k j : ℕ) → (k ≡ j) ⊎ (k ≢ j)
-same_or_not zero zero = inl refl
-same_or_not zero (suc j) = inr (λ e. omega arith)
-same_or_not (suc k) zero = inr (λ e. omega arith)
-same_or_not (suc k) (suc j) = elim (same_or_not k j) [ inl e ↦ inl (ap suc e) | inr n ↦ inr (λ e. n (omega arith)) ]
-
--- a list of which each is so, and one is changed to one that is so
-pub each_still_so : {A : Type 0} (P : A → Type 0) (xs : List A) (i : ℕ) (v : A) → i < length xs → ((k : ℕ) (d : A) → k < length xs → P (get_or xs k d)) → P v
-    → (k : ℕ) (d : A) → k < length (set xs i v) → P (get_or (set xs i v) k d)
-each_still_so P xs i v bound all one k d below = go (same_or_not k i)
-  where
-    go : (k ≡ i) ⊎ (k ≢ i) → P (get_or (set xs i v) k d)
-    go (inl same) = subst (λ (n : ℕ). P (get_or (set xs i v) n d)) (sym same) (subst P (sym (get_or-set_same xs i v d bound)) one)
-    go (inr other) = subst P (sym (get_or-set_other xs i k v d other)) (all k d (omega (arith, below, length-set xs i v)))
 
 -- what is so of the one that is put in a place is so of one of the list
 pub sent_by_one : {F A : Type 0} (R : F → A → Type 0) (o : Option F) (xs : List A) (i : ℕ) (v : A) → i < length xs → IfSome o (λ f. R f v)

@@ -23,7 +23,7 @@ HasTakenFrame f m m' memory =
     ⊎ ((m'.unit.live.node ≡ m.unit.live.node) × (m'.unit.live.queue ≡ m.unit.live.queue) × (m'.unit.unit ≡ m.unit.unit)
     × (m'.heard ≡ m.heard) × (m'.unheard ≡ min (m.unheard + 1) (2 ^ 64 - 1)))
 
--- it is as it was, but for what its node may note of a frame that it is still to hear
+-- it did not pass over a frame: it is as it was, and is still to hear it
 pub record IsStillToHear {X : Type 0} {P : X → Type 0} (m m' : Member X P) : Type 0 where
   pub node : m'.unit.live.node ≡ m.unit.live.node
   pub clock : m'.unit.live.clock ≡ m.unit.live.clock

@@ -9,11 +9,12 @@ use Rattle.station_table.specs.Reactions.{own_claim}
 use Rattle.station_table.specs.StationValue.{StationValue}
 use Rattle.station_table.specs.Steps.{new_station}
 use Rattle.live_station.specs.Working.{WorkingValue, begun_station}
+use Rattle.live_station.specs.declared.loss.Watch.{Watch}
 use Rattle.live_station.specs.declared.times.StationTimes.{StationTimes}
 
-pub begun_of_parts : (name want grant : ℕ) (times : StationTimes) (s : StationValue) (q : QueueValue) (c : UnitClock) (e : EchoValue)
+pub begun_of_parts : (name want grant : ℕ) (times : StationTimes) (s : StationValue) (q : QueueValue) (c : UnitClock) (e : EchoValue) (ws : List Watch)
     → s ≡ new_station name want grant → q ≡ putting false (plain (own_claim s.claimer) ∷ []) (empty_queue want) → c ≡ clock_at_start
-    → e ≡ record { written = []; comes_back = false }
+    → e ≡ record { written = []; comes_back = false } → ws ≡ []
     → ◌≡◌ {A = WorkingValue} (record {
       station = s;
       queue = q;
@@ -23,6 +24,7 @@ pub begun_of_parts : (name want grant : ℕ) (times : StationTimes) (s : Station
       asks_claims = true;
       claims_by = 0;
       clear_from = 0;
+      losses = ws;
       order = None;
     }) (begun_station name want grant times)
-begun_of_parts name want grant times s q c e es eq ec ee = rw (eq, ec, ee, es) refl
+begun_of_parts name want grant times s q c e ws es eq ec ee ew = rw (eq, ec, ee, ew, es) refl

@@ -16,7 +16,7 @@ use Rattle.station_table.specs.Listing.{entry_heard, lists_heard}
 use Rattle.station_table.specs.Reactions.{group_reaction}
 use Rattle.station_table.specs.StationValue.{StationValue}
 use Rattle.station_table.specs.Steps.{after_group}
-use Rattle.live_station.specs.Ear.{entry_of_told, frames_told, is_own}
+use Rattle.live_station.specs.Ear.{entry_of_told, frames_told, is_untold_after}
 use Rattle.live_station.specs.OpenOrders.{clearing_group, doubt_of, group_wanted, order_heard}
 use Rattle.live_station.specs.Positive.{AcknowledgesClear, IsPositive}
 use Rattle.live_station.specs.Signs.{sign_by, sign_for, sign_staged}
@@ -38,7 +38,7 @@ use Rattle.live_station.proofs.Positives.{IsAcknowledgedBy, heard_acknowledged}
 
 pub lists_after_told : (r : StationSettings) (f : FrameValue) (h : List Reading) (n : ℕ) (k : Kind)
     → with_listed (entry_of_told r f h) (lists_heard r (frames_told r h)) n k ≡ lists_heard r (frames_told r (Frame f ∷ h)) n k
-lists_after_told r f h n k = go (is_own (claimer_heard r (frames_told r h)) f)
+lists_after_told r f h n k = go (is_untold_after r (frames_told r h) f)
   where
     go : (b : Bool)
         → with_listed (if b then None else entry_heard r (Frame f) (frames_told r h)) (lists_heard r (frames_told r h)) n k

@@ -1,4 +1,5 @@
 pub mod Ears
+pub mod Asking
 pub mod Claimers
 pub mod Sources
 pub mod Turning

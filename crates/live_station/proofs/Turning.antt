@@ -1,11 +1,17 @@
 -- What a station does stays the same from one time to another, where each time that it waits for has come at both or at neither.
-use Rattle.std.proofs.Common.{◌≡◌, ℕ, Bool, true, false, not, ◌&&◌, nat_le, Option, Some, None, is_some, if◌then◌else◌, refl, ap, ◌∙◌}
+use Rattle.std.proofs.Common.{◌≡◌, ◌≤◌, ℕ, Bool, true, false, not, cond, ◌&&◌, nat_le, nat_lt, List, [], ◌∷◌, length, ◌+◌, Option, Some, None, is_some, if◌then◌else◌, arith, refl, ap, ◌∙◌}
+use Rattle.std.specs.List.{All, AllByRecursion, position_or_len}
+use Rattle.std.proofs.lemmas.Bool.{ltb-false}
+use Rattle.std.proofs.lemmas.List.Elements.{recursion_from_All}
 use Rattle.live_unit.specs.Queue.{QueueValue, waits}
 use Rattle.live_unit.specs.Times.{lane_due}
 use Rattle.live_unit.specs.declared.clock.UnitClock.{UnitClock}
 use Rattle.live_unit.specs.declared.queue.Lane.{Lane}
 use Rattle.live_station.specs.Turns.{StagesAlike, due_to_go, has_come, order_due, staged_due, to_command, to_go_by, to_go_from, to_one, unanswered}
-use Rattle.live_station.specs.Working.{WorkingValue, deed_turn, free_turn, has_nothing_waiting, is_at_rest, is_settled, order_turn, outlook_of, turn_at, turn_behind}
+use Rattle.station_table.specs.StationValue.{StationValue}
+use Rattle.live_station.specs.Losses.{is_due, watch_at, watch_due}
+use Rattle.live_station.specs.declared.loss.Watch.{Watch}
+use Rattle.live_station.specs.Working.{WorkingValue, deed_turn, free_turn, free_turn_behind, has_nothing_waiting, is_at_rest, is_settled, order_turn, outlook_of, turn_at, turn_behind}
 use Rattle.live_station.specs.declared.order.Order.{Order}
 use Rattle.live_station.specs.declared.order.Order.TheVariants.{Ask, AskClaim, AskAll, AskAllClaims, Clear, Command}
 use Rattle.live_station.specs.declared.open.Asked.{Asked}
@@ -87,9 +93,36 @@ order_turn_alike : (s : WorkingValue) (t now : ℕ) (going : Option OpenOrder) �
 order_turn_alike s t now None e a = refl
 order_turn_alike s t now (Some o) e a = ap (λ (d : Deed). deed_turn o d) (a o e)
 
-free_alike : (s : WorkingValue) (t now : ℕ) → Alike s.claims_by t now → OrdersAlike s t now → free_turn t s ≡ free_turn now s
-free_alike s t now e a =
+-- each packet that is waited for is at both times, or at neither
+abbrev pub WatchesAlike : List Watch → ℕ → ℕ → Type 0
+WatchesAlike ws t now = All (λ w. Alike w.until t now) ws
+
+due_alike : (s : StationValue) (w : Watch) (t now : ℕ) → Alike w.until t now → is_due s t w ≡ is_due s now w
+due_alike s w t now e = rw e refl
+
+len_alike : (s : StationValue) (ws : List Watch) (t now : ℕ) → AllByRecursion (λ w. Alike w.until t now) ws
+    → position_or_len (is_due s t) ws ≡ position_or_len (is_due s now) ws
+len_alike s [] t now a = refl
+len_alike s (w ∷ ws) t now (a, more) =
+    rw (due_alike s w t now a) (ap (λ (n : ℕ). cond (not (is_due s now w)) (1 + n) 0) (len_alike s ws t now more))
+
+first_alike : (s : StationValue) (ws : List Watch) (t now : ℕ) → AllByRecursion (λ w. Alike w.until t now) ws → watch_due s t ws ≡ watch_due s now ws
+first_alike s ws t now a =
+    ap (λ (n : ℕ). watch_at ws (cond (nat_lt n (length ws)) (Some n) None)) (len_alike s ws t now a)
+
+claims_alike : (s : WorkingValue) (t now : ℕ) → Alike s.claims_by t now → OrdersAlike s t now → free_turn_behind None t s ≡ free_turn_behind None now s
+claims_alike s t now e a =
     rw e (ap (λ (x : Turn). if s.asks_claims && nat_le s.claims_by now && is_some s.station.claimer.held then turn.AsksClaims else x) (order_turn_alike s t now s.order refl a))
+
+watched_alike : (due : Option Watch) (s : WorkingValue) (t now : ℕ) → Alike s.claims_by t now → OrdersAlike s t now
+    → free_turn_behind due t s ≡ free_turn_behind due now s
+watched_alike None s t now e a = claims_alike s t now e a
+watched_alike (Some w) s t now e a = refl
+
+free_alike : (s : WorkingValue) (t now : ℕ) → Alike s.claims_by t now → WatchesAlike s.losses t now → OrdersAlike s t now → free_turn t s ≡ free_turn now s
+free_alike s t now e ws a =
+    ap (λ (o : Option Watch). free_turn_behind o t s) (first_alike s.station s.losses t now (recursion_from_All _ s.losses ws))
+    ∙ watched_alike (watch_due s.station now s.losses) s t now e a
 
 behind_alike : (lane : Option Lane) (s : WorkingValue) (t now : ℕ) → Alike s.clock.settled_from t now → free_turn t s ≡ free_turn now s
     → turn_behind lane t s ≡ turn_behind lane now s
@@ -97,10 +130,10 @@ behind_alike (Some lane) s t now e f = refl
 behind_alike None s t now e f = rw e (ap (λ (x : Turn). if is_settled now s then x else turn.Rests) f)
 
 pub turn_alike : (s : WorkingValue) (t now : ℕ) → Alike s.clock.claim_from t now → Alike s.clock.settled_from t now → Alike s.clock.packet_from t now
-    → Alike s.claims_by t now → OrdersAlike s t now → turn_at t s ≡ turn_at now s
-turn_alike s t now a b c d o =
+    → Alike s.claims_by t now → WatchesAlike s.losses t now → OrdersAlike s t now → turn_at t s ≡ turn_at now s
+turn_alike s t now a b c d ws o =
     ap (λ (l : Option Lane). turn_behind l t s) (lane_alike s.clock s.queue t now a b c)
-    ∙ behind_alike (lane_due s.clock now s.queue) s t now b (free_alike s t now d o)
+    ∙ behind_alike (lane_due s.clock now s.queue) s t now b (free_alike s t now d ws o)
 
 -- ---- nothing waits, and nothing is asked for
 
@@ -134,11 +167,16 @@ none_goes c now q e =
     let last : (not (waits q.session) && not (waits q.messages)) ≡ true = rest_of _ _ others in
     no_lane c now q (is_not _ (first_of _ _ e)) (is_not _ (first_of _ _ others)) (is_not _ (first_of _ _ last)) (is_not _ (rest_of _ _ last)))
 
-nothing_free : (s : WorkingValue) (t : ℕ) → s.asks_claims ≡ false → s.order ≡ None → turn_behind None t s ≡ turn.Rests
-nothing_free s t e f = rw (e, f) (either Turn turn.Rests (is_settled t s))
+none_watched : (ws : List Watch) → nat_lt 0 (length ws) ≡ false → ws ≡ []
+none_watched [] e = refl
+none_watched (w ∷ ws) e = (let none : length (w ∷ ws) ≤ 0 = ltb-false 0 (length (w ∷ ws)) e in absurd (omega arith))
+
+nothing_free : (s : WorkingValue) (t : ℕ) → s.losses ≡ [] → s.asks_claims ≡ false → s.order ≡ None → turn_behind None t s ≡ turn.Rests
+nothing_free s t w e f = rw (w, e, f) (either Turn turn.Rests (is_settled t s))
 
 pub rests_always : (s : WorkingValue) (t : ℕ) → is_at_rest s ≡ true → turn_at t s ≡ turn.Rests
 rests_always s t e =
-    (let others : (not s.asks_claims && has_nothing_waiting s.queue) ≡ true = rest_of _ _ e in
-    ap (λ (l : Option Lane). turn_behind l t s) (none_goes s.clock t s.queue (rest_of _ _ others))
-    ∙ nothing_free s t (is_not _ (first_of _ _ others)) (is_none s.order (first_of _ _ e)))
+    (let others : (not s.asks_claims && (not (nat_lt 0 (length s.losses)) && has_nothing_waiting s.queue)) ≡ true = rest_of _ _ e in
+    let rest : (not (nat_lt 0 (length s.losses)) && has_nothing_waiting s.queue) ≡ true = rest_of _ _ others in
+    ap (λ (l : Option Lane). turn_behind l t s) (none_goes s.clock t s.queue (rest_of _ _ rest))
+    ∙ nothing_free s t (none_watched s.losses (is_not _ (first_of _ _ rest))) (is_not _ (first_of _ _ others)) (is_none s.order (first_of _ _ e)))

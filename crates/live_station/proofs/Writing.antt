@@ -4,7 +4,9 @@ use Rattle.std.specs.Prelude.{OnOk}
 use Rattle.live_unit.specs.Times.{lane_due}
 use Rattle.live_unit.specs.declared.queue.Lane.{Lane}
 use Rattle.live_station.specs.Turns.{order_due}
-use Rattle.live_station.specs.Working.{WorkingValue, deed_turn, is_settled, is_to_ask_claims, order_turn, outlook_of, turn_at, turn_behind}
+use Rattle.live_station.specs.Losses.{watch_due}
+use Rattle.live_station.specs.Working.{WorkingValue, deed_turn, free_turn_behind, is_settled, is_to_ask_claims, order_turn, outlook_of, turn_at, turn_behind}
+use Rattle.live_station.specs.declared.loss.Watch.{Watch}
 use Rattle.live_station.specs.declared.open.OpenOrder.{OpenOrder}
 use Rattle.live_station.specs.declared.turn.Deed.{Deed}
 use Rattle.live_station.specs.declared.turn.Deed.TheVariants as deed
@@ -29,9 +31,13 @@ order_writes : (now : ℕ) (s : WorkingValue) (going : Option OpenOrder) → Wri
 order_writes now s None = tt
 order_writes now s (Some o) = deed_writes o (order_due o (outlook_of s o.order) now)
 
+behind_writes : (now : ℕ) (s : WorkingValue) (due : Option Watch) → WritesNone (free_turn_behind due now s)
+behind_writes now s None = by_case (is_to_ask_claims now s) turn.AsksClaims _ tt (order_writes now s s.order)
+behind_writes now s (Some w) = tt
+
 free_writes : (now : ℕ) (s : WorkingValue) → WritesNone (turn_behind None now s)
 free_writes now s =
-    by_case (is_settled now s) _ turn.Rests (by_case (is_to_ask_claims now s) turn.AsksClaims _ tt (order_writes now s s.order)) tt
+    by_case (is_settled now s) _ turn.Rests (behind_writes now s (watch_due s.station now s.losses)) tt
 
 pub writes_due : (now : ℕ) (s : WorkingValue) (lane : Lane) → turn_at now s ≡ turn.Writes lane → lane_due s.clock now s.queue ≡ Some lane
 writes_due now s lane e = go (lane_due s.clock now s.queue) e

@@ -1,4 +1,5 @@
 pub mod Ear
+pub mod Losses
 pub mod OpenOrders
 pub mod Signs
 pub mod Turns

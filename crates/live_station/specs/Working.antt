@@ -1,5 +1,5 @@
 -- What one call changes of a station that takes part in a bus.
-use Rattle.std.specs.Prelude.{ℕ, ◌≡◌, ◌≢◌, ◌⊎◌, ◌+◌, ◌≤◌, ◌<◌, ◌++◌, Bool, true, false, not, ◌&&◌, nat_le, is_some, List, [], ◌∷◌, drop, length, slice_get, IfNone, IfSome, Option, Some, None, if◌then◌else◌}
+use Rattle.std.specs.Prelude.{ℕ, ◌≡◌, ◌≢◌, ◌⊎◌, ◌+◌, ◌≤◌, ◌<◌, ◌++◌, Bool, true, false, not, ◌&&◌, nat_le, nat_lt, is_some, List, [], ◌∷◌, drop, length, slice_get, IfNone, IfSome, Option, Some, None, if◌then◌else◌}
 use Rattle.std.specs.List.{All}
 use Rattle.can_frame.specs.Fields.{source_of}
 use Rattle.can_frame.specs.FrameValue.{FrameValue}
@@ -26,22 +26,29 @@ use Rattle.node_core.specs.declared.out.Out.{Out}
 use Rattle.parameter_group.specs.Group.{Group, Request, ConnectionManagement, DataTransfer, group_of}
 use Rattle.requests.specs.Layouts.{ack_frame_value, commanded_bytes, request_frame_value}
 use Rattle.requests.specs.declared.acknowledgment.Ack.{Ack}
+use Rattle.reassembly.specs.Tables.{at}
 use Rattle.station_table.specs.Changing.{group_changes}
 use Rattle.station_table.specs.Reactions.{group_reaction, own_claim, request_for_claims, station_reaction}
+use Rattle.station_table.specs.Sessions.{session_of}
 use Rattle.station_table.specs.StationValue.{StationValue}
 use Rattle.station_table.specs.Steps.{after_gap, after_group, new_station}
 use Rattle.station_table.specs.declared.reaction.Reaction.{Reaction}
+use Rattle.station_table.specs.declared.session.Session.{Session}
 use Rattle.transport.specs.Messages.{control_frame, part_of_message}
 use Rattle.transport.specs.declared.control.Control.{Control}
-use Rattle.live_station.specs.Ear.{is_own}
-use Rattle.live_station.specs.OpenOrders.{group_wanted, order_ended, order_heard, order_missed, part_number, unit_named}
-use Rattle.live_station.specs.Signs.{sign_for}
+use Rattle.live_station.specs.Ear.{is_out_of_turn, is_own}
+use Rattle.live_station.specs.Losses.{control_again, is_asked_enough, watch_due, watches_asked, watches_passed, watches_told}
+use Rattle.live_station.specs.OpenOrders.{group_wanted, order_ended, order_heard, order_missed, part_number, unit_named, waiting_on}
+use Rattle.live_station.specs.Signs.{is_asked_at, sign_for}
 use Rattle.live_station.specs.Turns.{order_due, with_part_written, with_request_written}
+use Rattle.live_station.specs.declared.loss.Watch.{Watch}
 use Rattle.live_station.specs.declared.open.OpenOrder.{OpenOrder}
 use Rattle.live_station.specs.declared.open.Part.{Part}
 use Rattle.live_station.specs.declared.open.Progress.{Progress}
 use Rattle.live_station.specs.declared.open.Progress.TheVariants.{Goes, Ends}
 use Rattle.live_station.specs.declared.open.Sight.{Sight}
+use Rattle.live_station.specs.declared.open.Stage.{Stage}
+use Rattle.live_station.specs.declared.open.Stage.TheVariants as stage
 use Rattle.live_station.specs.declared.open.TheConstants.{ANSWER_WAIT}
 use Rattle.live_station.specs.declared.order.Order.{Order}
 use Rattle.live_station.specs.declared.order.Order.TheVariants as order
@@ -61,7 +68,7 @@ use Rattle.live_station.specs.declared.verdict.Finding.TheVariants.{Silent}
 use Rattle.live_station.specs.declared.verdict.Verdict.{Verdict}
 
 -- the station: what it knows (`station_table`), what waits to be written, its times, and what it wrote; whether claims are to be asked for,
--- until when those that were asked for are waited for, and from when on a clear goes; and the open order
+-- until when those that were asked for are waited for, and from when on a clear goes; the sessions that are watched; and the open order
 pub record WorkingValue : Type 0 where
   pub station : StationValue
   pub queue : QueueValue
@@ -71,6 +78,7 @@ pub record WorkingValue : Type 0 where
   pub asks_claims : Bool
   pub claims_by : ℕ
   pub clear_from : ℕ
+  pub losses : List Watch
   pub order : Option OpenOrder
 
 -- a station that begins: its claim waits, and the claims of all are to be asked for
@@ -84,6 +92,7 @@ begun_station name want grant times = record {
   asks_claims = true;
   claims_by = 0;
   clear_from = 0;
+  losses = [];
   order = None;
 }
 
@@ -191,16 +200,33 @@ after_told g now s = record s {
   station = after_group s.station g;
   queue = after_reaction (group_reaction s.station g) (claim_source (after_group s.station g).claimer.held) s.queue;
   clock = clock_after_hearing false s.station.claimer.held (after_group s.station g).claimer.held s.station.claimer.name now s.clock;
+  losses = watches_told g (after_group s.station g) now s.losses;
   order = still_open (progress_by g now s);
 }
 
 abbrev pub told_of_it : Group → ℕ → WorkingValue → Told
 told_of_it g now s = record { change = group_changes s.station g; verdict = verdict_of (progress_by g now s); stranger = false }
 
--- a frame was heard: one of its own, or any other
+-- a packet that is not the next one of its session: the station is not told of it; its sender goes on, as its watch and the open order know
+abbrev pub progress_passed : Group → ℕ → WorkingValue → Option Progress
+progress_passed g now s = hearing_on s.station (sign_for s.order g change.Nothing) false false now s.order
+
+abbrev pub after_passing : Group → ℕ → WorkingValue → WorkingValue
+after_passing g now s = record s { losses = watches_passed g now s.losses; order = still_open (progress_passed g now s) }
+
+abbrev pub told_in_passing : Group → ℕ → WorkingValue → Told
+told_in_passing g now s = record { change = change.Nothing; verdict = verdict_of (progress_passed g now s); stranger = false }
+
+abbrev pub passes_over : WorkingValue → FrameValue → Bool
+passes_over s f = is_out_of_turn s.station.claimer.held (at s.station.sessions (source_of f.id)) (group_of f)
+
+-- a frame was heard: one of its own, a packet out of turn, or any other
 pub record HearsOnBus (f : FrameValue) (now : ℕ) (t : Told) (s s' : WorkingValue) : Type 0 where
   pub own : is_own s.station.claimer f ≡ true → HearsOwnFrame f now t s s'
-  pub other : is_own s.station.claimer f ≡ false → (s' ≡ after_told (group_of f) now s) × (t ≡ told_of_it (group_of f) now s)
+  pub passed : is_own s.station.claimer f ≡ false → passes_over s f ≡ true
+      → (s' ≡ after_passing (group_of f) now s) × (t ≡ told_in_passing (group_of f) now s)
+  pub other : is_own s.station.claimer f ≡ false → passes_over s f ≡ false
+      → (s' ≡ after_told (group_of f) now s) × (t ≡ told_of_it (group_of f) now s)
 
 -- frames were missed: what is known of owners is forgotten, the claim is put in the place of what waits, and claims are to be asked for
 abbrev pub after_missing : ℕ → ℕ → WorkingValue → WorkingValue
@@ -209,6 +235,7 @@ after_missing count now s = record s {
   queue = after_reaction (station_reaction s.station (Gap count)) (claim_source s.station.claimer.held) s.queue;
   clock = clock_after_hearing false s.station.claimer.held s.station.claimer.held s.station.claimer.name now s.clock;
   asks_claims = true;
+  losses = [];
   order = still_open (missing_on now s.order);
 }
 
@@ -248,9 +275,14 @@ abbrev pub order_turn : ℕ → WorkingValue → Option OpenOrder → Turn
 order_turn now s None = turn.Rests
 order_turn now s (Some o) = deed_turn o (order_due o (outlook_of s o.order) now)
 
--- where nothing waits that goes, and no claim, and the station has settled: claims are asked for first
+-- where no packet is to be asked for: claims are asked for first
+abbrev pub free_turn_behind : Option Watch → ℕ → WorkingValue → Turn
+free_turn_behind (Some w) now s = turn.AsksAgain w
+free_turn_behind None now s = if is_to_ask_claims now s then turn.AsksClaims else order_turn now s s.order
+
+-- where nothing waits that goes, and no claim, and the station has settled: packets that are missing are asked for first
 abbrev pub free_turn : ℕ → WorkingValue → Turn
-free_turn now s = if is_to_ask_claims now s then turn.AsksClaims else order_turn now s s.order
+free_turn now s = free_turn_behind (watch_due s.station now s.losses) now s
 
 abbrev pub is_settled : ℕ → WorkingValue → Bool
 is_settled now s = not (waits s.queue.claims) && nat_le s.clock.settled_from now
@@ -267,9 +299,9 @@ turn_at now s = turn_behind (lane_due s.clock now s.queue) now s
 abbrev pub has_nothing_waiting : QueueValue → Bool
 has_nothing_waiting q = not (waits q.claims) && (not (waits q.singles) && (not (waits q.session) && not (waits q.messages)))
 
--- nor is an order open, nor are claims to be asked for
+-- nor is an order open, nor are claims to be asked for, nor is a session watched
 abbrev pub is_at_rest : WorkingValue → Bool
-is_at_rest s = not (is_some s.order) && (not s.asks_claims && has_nothing_waiting s.queue)
+is_at_rest s = not (is_some s.order) && (not s.asks_claims && (not (nat_lt 0 (length s.losses)) && has_nothing_waiting s.queue))
 
 -- a claim that is the first of its address puts off clears
 abbrev pub clear_from_claim : Lane → UnitClock → ℕ → ℕ → ℕ
@@ -295,6 +327,29 @@ asked_for_claims now s = record s {
   asks_claims = false;
   claims_by = later now ANSWER_WAIT;
 }
+
+-- packets that are missing of a session are asked for, and an order that waits for them waits on; or the session is given up
+abbrev pub waiting_from : Stage → ℕ → ℕ → OpenOrder → OpenOrder
+waiting_from (stage.Asked a) source now o = if is_asked_at a source && a.session then waiting_on a now o else o
+waiting_from _ source now o = o
+
+abbrev pub order_waits_on : ℕ → ℕ → Option OpenOrder → Option OpenOrder
+order_waits_on source now None = None
+order_waits_on source now (Some o) = Some (waiting_from o.stage source now o)
+
+abbrev pub frame_again : WorkingValue → Session → Watch → FrameValue
+frame_again s j w = control_frame (control_again j w) (claim_source s.station.claimer.held) w.source
+
+abbrev pub asked_again : ℕ → Session → Watch → WorkingValue → WorkingValue
+asked_again now j w s = record s {
+  echo = with_written (frame_again s j w) s.echo;
+  losses = watches_asked j now w s.losses;
+  order = if is_asked_enough j w then s.order else order_waits_on w.source now s.order;
+}
+
+abbrev pub AsksAgain : Option Session → Watch → ℕ → Pulled → WorkingValue → WorkingValue → Type 0
+AsksAgain None w now p s s' = (p ≡ pulled.Nothing) × (s' ≡ s)
+AsksAgain (Some j) w now p s s' = (p ≡ pulled.Frame (frame_again s j w) false) × (s' ≡ asked_again now j w s)
 
 -- the request of an order, from the address that is held
 abbrev pub order_request : WorkingValue → Order → ℕ → FrameValue
@@ -346,6 +401,7 @@ DoesDeed (deed.Ends finding) now o p s s' =
 abbrev pub DoesTurn : Turn → ℕ → Pulled → WorkingValue → WorkingValue → Type 0
 DoesTurn turn.Rests now p s s' = (p ≡ pulled.Nothing) × (s' ≡ s)
 DoesTurn (turn.Writes lane) now p s s' = SendsWaiting now lane p s s'
+DoesTurn (turn.AsksAgain w) now p s s' = AsksAgain (session_of s.station w.source) w now p s s'
 DoesTurn turn.AsksClaims now p s s' = (p ≡ pulled.Frame (request_for_claims s.station.claimer) false) × (s' ≡ asked_for_claims now s)
 DoesTurn (turn.Does o d) now p s s' = DoesDeed d now o p s s'
 

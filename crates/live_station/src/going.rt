@@ -4,7 +4,7 @@ ghost use Rattle.address_claim.specs.Frames.{claim_source};
 ghost use Rattle.parameter_group.specs.Said.{said};
 ghost use Rattle.live_station.specs.OpenOrders.{unit_named};
 ghost use Rattle.live_station.specs.Signs.{sign_for};
-ghost use Rattle.live_station.specs.Working.{address_of_name, deed_turn, hearing_on, missing_on, still_open, verdict_of};
+ghost use Rattle.live_station.specs.Working.{address_of_name, deed_turn, hearing_on, missing_on, order_waits_on, still_open, verdict_of};
 ghost use Rattle.live_station.specs.Working as spec;
 ghost use Rattle.live_unit.specs.declared.clock.UnitClock.{UnitClock};
 
@@ -118,6 +118,14 @@ pub fn go_on(order: &mut Option<OpenOrder>, progress: Option<Progress>) -> Optio
             None
         }
     }
+}
+
+/// The open order, where packets of a session from this address were asked for again.
+pub fn wait_on(order: Option<OpenOrder>, source: u8, now: u64) -> Option<OpenOrder>
+    ensures { result ≡ order_waits_on source now order }
+{
+    let going = order?;
+    Some(going.wait_on(source, now))
 }
 
 /// The address of the unit that an order is for.

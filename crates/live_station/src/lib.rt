@@ -9,6 +9,7 @@ mod error;
 mod going;
 mod hearing;
 mod laws;
+mod loss;
 mod open;
 mod order;
 mod pulled;
@@ -20,7 +21,10 @@ mod verdict;
 mod waiting;
 
 pub use error::{HearError, OrderError};
-pub use laws::{a_clear_stays_out_undoubted, lists_are_what_was_told, positive_is_acknowledged};
+pub use laws::{
+    a_clear_stays_out_undoubted, a_packet_is_asked_for_again_twice, lists_are_what_was_told,
+    packets_are_told_in_order, positive_is_acknowledged, what_is_missing_is_asked_for,
+};
 pub use open::{Asked, OpenOrder, Part, Progress, Stage};
 pub use order::{Clearing, Order};
 pub use pulled::{Pulled, Told};

@@ -1,6 +1,7 @@
 ghost use Rattle.std.specs.Prelude.{◌≡◌, ◌≤◌, Some};
 ghost use Rattle.live_station.specs.OpenOrders.{asking_again, begun_order, command_goes_on, doubt_of, doubted, finding_read, order_acknowledged, order_answered, order_cut_off, order_ended, order_heard, order_missed, order_signed, part_number, signed_or_doubted, verdict_now, waiting_on, with_mark, without_mark};
 ghost use Rattle.live_station.specs.OpenOrders as orders;
+ghost use Rattle.live_station.specs.Working.{waiting_from};
 
 use crate::order::Order;
 use crate::sign::Sign;
@@ -285,6 +286,18 @@ impl OpenOrder {
             ..asked
         };
         Progress::Goes(self.waiting_on(answered, now))
+    }
+
+    /// Packets of a session from this address were asked for again: where the answer is one, it is waited for on.
+    pub fn wait_on(self, source: u8, now: u64) -> OpenOrder
+        ensures { result ≡ waiting_from self.stage source now self }
+    {
+        match self.stage {
+            Stage::Asked(asked) if asked.is_from(source) && asked.session => {
+                self.waiting_on(asked, now)
+            }
+            _ => self,
+        }
     }
 
     /// The answer is waited for from now on, but not longer than it may take in all.

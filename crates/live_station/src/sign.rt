@@ -190,7 +190,7 @@ fn is_answer(order: Order, asked: Asked, by: Name, of: Kind, source: u8) -> bool
 
 impl Asked {
     /// Whether who sends from this address is asked.
-    fn is_from(self, source: u8) -> bool
+    pub fn is_from(self, source: u8) -> bool
         ensures { result ≡ is_asked_at self source }
     {
         self.to == GLOBAL_ADDRESS || self.to == source

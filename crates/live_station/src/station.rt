@@ -10,7 +10,7 @@ ghost use Rattle.station_table.specs.StandsFor.{StandsFor};
 ghost use Rattle.live_station.specs.Ear.{entry_of_told, frames_told};
 ghost use Rattle.live_station.specs.OpenOrders.{begun_order, commands_too_far, order_cut_off};
 ghost use Rattle.live_station.specs.Turns.{order_due};
-ghost use Rattle.live_station.specs.Working.{DoesDeed, DoesTurn, HearsOnBus, HearsOwnFrame, IsSentFromOwn, IsUnordered, MissesFrames, LacksRoomToHear, SendsWaiting, after_told, after_stranger, asked_for_claims, begun_station, outlook_of, progress_by_stranger, settled_since, told_of_it, turn_at, verdict_of};
+ghost use Rattle.live_station.specs.Working.{DoesTurn, HearsOnBus, HearsOwnFrame, IsSentFromOwn, IsUnordered, MissesFrames, LacksRoomToHear, after_passing, after_told, after_stranger, begun_station, outlook_of, progress_by_stranger, settled_since, told_in_passing, told_of_it, turn_at, verdict_of};
 ghost use Rattle.live_station.specs.Ear as ear;
 ghost use Rattle.live_station.specs.Working as spec;
 ghost use Rattle.live_unit.specs.Queue.{HasFreeLanes};
@@ -26,7 +26,8 @@ use crate::going::{
     address_of, clear_from_claim, clear_from_end, go_on, hear_on, look_on, miss_on, source_of,
     turn_of,
 };
-use crate::hearing::{is_own, may_be_answered};
+use crate::hearing::{is_out_of_turn, is_own, may_be_answered};
+use crate::loss::Losses;
 use crate::open::{ANSWER_WAIT, OpenOrder, Part};
 use crate::order::Order;
 use crate::pulled::{Pulled, Told};
@@ -45,7 +46,8 @@ use requests::{Commanded, Request};
 use station_table::{Outcome, Station};
 use std::alloc::{AllocError, Global};
 use std::marker::Model;
-use transport::message_part;
+
+mod doing;
 
 /// A diagnostic station that takes part in a bus that others are on.
 #[derive(Drop)]
@@ -59,6 +61,7 @@ pub struct LiveStation {
     asks_claims: bool,
     claims_by: u64,
     clear_from: u64,
+    losses: Losses,
     order: Option<OpenOrder>,
 }
 
@@ -78,6 +81,7 @@ impl Model for LiveStation {
       asks_claims = s.asks_claims;
       claims_by = s.claims_by;
       clear_from = s.clear_from;
+      losses = s.losses;
       order = s.order;
     } };
 
@@ -116,6 +120,7 @@ impl LiveStation {
             asks_claims: true,
             claims_by: 0,
             clear_from: 0,
+            losses: Losses::new(alloc)?,
             order: None,
         })
     }
@@ -134,7 +139,7 @@ impl LiveStation {
         &self.station
     }
 
-    /// What became of its claims and its answers; requests and commands are not among them.
+    /// What became of its claims and its answers; requests, commands and what asks for packets again are not among them.
     pub fn counts(&self) -> QueueCounts
         ensures put { result.put ≡ self.now.queue.put }
         ensures written { result.written ≡ self.now.queue.written }
@@ -182,11 +187,13 @@ impl LiveStation {
     /// order looks at it.
     ///
     /// A frame of its own, which the bus told it of, changes nothing. One from its own address that it did not write is somebody
-    /// else's: it is told, and an order that is out is in doubt.
+    /// else's: it is told, and an order that is out is in doubt. A packet of a session that came already, or behind one that is
+    /// missing, is passed over; what is missing is asked for again in its time, twice at most for the same packet, and else the
+    /// session is given up (SAE J1939-21, 5.10.3, from memory).
     ///
     /// Refused: `Full`, where as much waits as there is room for and the frame is a request or one of a session; `OutOfMemory`. Then
     /// nothing changed.
-    #[tactic(auto, using(crate::proofs::Ears::stands_own, crate::proofs::Ears::entry_own))]
+    #[tactic(auto, using(crate::proofs::Ears::stands_own, crate::proofs::Ears::entry_own, crate::proofs::Ears::stands_passed, crate::proofs::Ears::entry_passed))]
     pub fn hear<L: Lists>(
         &mut self,
         alloc: Global,
@@ -211,6 +218,9 @@ impl LiveStation {
         if !self.queue.may_put() || may_be_answered(&group) && !self.queue.has_room() {
             return Err(HearError::Full);
         }
+        if is_out_of_turn(&self.station, &group, frame.id().source()) {
+            return Ok(self.pass_over(&group, now));
+        }
         self.hear_told(alloc, &group, now, lists)
     }
 
@@ -220,6 +230,21 @@ impl LiveStation {
         ensures { result ≡ ear.is_own self.now.station.claimer frame.now }
     {
         is_own(self.name, self.station.held(), group, frame.id().source())
+    }
+
+    /// Passes over a packet out of turn.
+    fn pass_over(&mut self, group: &ParameterGroup<'_>, now: u64) -> Told
+        ensures is { self.new ≡ after_passing (said group.now) now self.old }
+        ensures told { result ≡ told_in_passing (said group.now) now self.old }
+    {
+        self.losses.pass(group, now);
+        let change = Change::Nothing;
+        let verdict = look_on(&mut self.order, &self.station, group, &change, false, now);
+        Told {
+            change,
+            verdict,
+            stranger: false,
+        }
     }
 
     /// Hears what a frame says that the station is told of.
@@ -252,6 +277,7 @@ impl LiveStation {
         let after = self.station.held();
         take_in(&mut self.queue, reaction, after);
         self.clock.hear(false, before, after, now, self.name);
+        self.losses.follow(&self.station, group, now);
         let verdict = look_on(
             &mut self.order,
             &self.station,
@@ -296,6 +322,7 @@ impl LiveStation {
         take_in(&mut self.queue, reaction, after);
         self.clock.hear(false, before, after, now, self.name);
         self.asks_claims = true;
+        self.losses.clear();
         let progress = miss_on(self.order, now);
         let verdict = go_on(&mut self.order, progress);
         Ok(Told {
@@ -353,8 +380,8 @@ impl LiveStation {
         Ok(())
     }
 
-    /// What goes at this time: a frame that waits; else a request for claims, where one is due; else what the open order does. Where
-    /// nothing goes, `next` says when to look again, which may be at once.
+    /// What goes at this time: a frame that waits; else what asks for packets that are missing, or gives their session up; else a
+    /// request for claims, where one is due; else what the open order does. Where nothing goes, `next` says when to look again, which may be at once.
     #[tactic(auto, using(crate::proofs::Turning::rests_always))]
     pub fn pull(&mut self, now: u64) -> Pulled
         ensures turn { DoesTurn (turn_at now self.old) now result self.old self.new }
@@ -367,6 +394,7 @@ impl LiveStation {
         match self.turn(now) {
             Turn::Rests => Pulled::Nothing,
             Turn::Writes(lane) => self.write_waiting(lane, now),
+            Turn::AsksAgain(watch) => self.ask_again(watch, now),
             Turn::AsksClaims => self.ask_claims(now),
             Turn::Does(open, deed) => self.carry_out(open, deed, now),
         }
@@ -397,12 +425,14 @@ impl LiveStation {
         }
     }
 
-    /// Whether nothing waits, no order is open, and claims are not to be asked for: then it does nothing, whenever that is.
+    /// Whether nothing waits, no order is open, no session is watched, and claims are not to be asked for: then it does nothing,
+    /// whenever that is.
     fn is_at_rest(&self) -> bool
         ensures { result ≡ spec.is_at_rest self.now }
     {
         self.order.is_none()
             && !self.asks_claims
+            && !self.losses.is_some()
             && !self.queue.waits(Lane::Claims)
             && !self.queue.waits(Lane::Singles)
             && !self.queue.waits(Lane::Session)
@@ -419,6 +449,7 @@ impl LiveStation {
             .min(behind(now, self.clock.settled_from))
             .min(behind(now, self.clock.packet_from))
             .min(behind(now, self.claims_by))
+            .min(self.losses.next(now))
             .min(self.order_rests_until(now))
     }
 
@@ -457,10 +488,11 @@ impl LiveStation {
     fn free_turn(&self, now: u64) -> Turn
         ensures { result ≡ spec.free_turn now self.now }
     {
-        if self.is_to_ask_claims(now) {
-            return Turn::AsksClaims;
+        match self.losses.due(&self.station, now) {
+            Some(watch) => Turn::AsksAgain(watch),
+            None if self.is_to_ask_claims(now) => Turn::AsksClaims,
+            None => self.order_turn(now),
         }
-        self.order_turn(now)
     }
 
     /// What its open order does.
@@ -482,46 +514,6 @@ impl LiveStation {
         self.asks_claims && self.claims_by <= now && self.station.held().is_some()
     }
 
-    /// Writes the first frame of a lane.
-    #[tactic(auto, using(live_unit::proofs::Timing::due_waits, crate::proofs::Owing::owes_after_taking, crate::proofs::Owing::owed_in_lane))]
-    fn write_waiting(&mut self, lane: Lane, now: u64) -> Pulled
-        requires due { lane_due self.old.clock now self.old.queue ≡ Some lane }
-        ensures sends { SendsWaiting now lane result self.old self.new }
-        ensures source { IsSentFromOwn result self.old.station }
-        ensures unordered { IsUnordered result self.old.station }
-    {
-        self.clear_from = clear_from_claim(lane, self.clock.claimed, now, self.clear_from);
-        let out = self.queue.take(lane);
-        self.clock.write(&self.settings, lane, now);
-        self.echo.write(out.frame);
-        Pulled::Frame {
-            frame: out.frame,
-            of_order: false,
-        }
-    }
-
-    /// Asks for the claims of all.
-    #[tactic(auto, using(crate::proofs::Sources::request_from_own))]
-    fn ask_claims(&mut self, now: u64) -> Pulled
-        ensures is { self.new ≡ asked_for_claims now self.old }
-        ensures pulled { result ≡ Pulled.Frame (request_for_claims self.old.station.claimer) false }
-        ensures source { IsSentFromOwn result self.old.station }
-    {
-        let request = Request {
-            pgn: Pgn::ADDRESS_CLAIMED,
-            dest: GLOBAL_ADDRESS,
-            source: source_of(self.station.held()),
-        };
-        let frame = request.frame();
-        self.asks_claims = false;
-        self.claims_by = now.saturating_add(ANSWER_WAIT);
-        self.echo.write(frame);
-        Pulled::Frame {
-            frame,
-            of_order: false,
-        }
-    }
-
     /// What an order sees.
     fn outlook(&self, order: Order) -> Outlook
         ensures { result ≡ outlook_of self.now order }
@@ -532,87 +524,6 @@ impl LiveStation {
             known_from: self.known_from(),
             clear_from: self.clear_from,
             packet_from: self.clock.packet_from,
-        }
-    }
-
-    /// Does what the open order does at this time.
-    fn carry_out(&mut self, going: OpenOrder, deed: Deed, now: u64) -> Pulled
-        ensures does { DoesDeed deed now going result self.old self.new }
-        ensures source { IsSentFromOwn result self.old.station }
-        ensures unordered { IsUnordered result self.old.station }
-    {
-        match deed {
-            Deed::Nothing => Pulled::Nothing,
-            Deed::Request { to } => self.write_request(going, to, now),
-            Deed::Command {
-                name,
-                address,
-                part,
-            } => {
-                let command = Commanded { name, address };
-                self.write_part(going, command, part, now)
-            }
-            Deed::Ends(finding) => self.end(going, finding, now),
-        }
-    }
-
-    /// Writes the request of the open order.
-    #[tactic(auto, using(crate::proofs::Sources::request_from_own))]
-    fn write_request(&mut self, going: OpenOrder, to: u8, now: u64) -> Pulled
-        ensures does { DoesDeed (Deed.Request to) now going result self.old self.new }
-        ensures source { IsSentFromOwn result self.old.station }
-        ensures unordered { IsUnordered result self.old.station }
-    {
-        let own = source_of(self.station.held());
-        let request = Request {
-            pgn: going.order.pgn(),
-            dest: to,
-            source: own,
-        };
-        let frame = request.frame();
-        self.order = Some(going.write_request(own, to, now));
-        self.echo.write(frame);
-        Pulled::Frame {
-            frame,
-            of_order: true,
-        }
-    }
-
-    /// Writes a frame of a command.
-    #[tactic(auto, using(crate::proofs::Sources::part_from_own))]
-    fn write_part(&mut self, going: OpenOrder, command: Commanded, part: Part, now: u64) -> Pulled
-        ensures does { DoesDeed (Deed.Command command.name command.address part) now going result self.old self.new }
-        ensures source { IsSentFromOwn result self.old.station }
-        ensures unordered { IsUnordered result self.old.station }
-    {
-        let own = source_of(self.station.held());
-        let payload = command.to_bytes();
-        let frame = message_part(
-            &payload,
-            Pgn::COMMANDED_ADDRESS,
-            own,
-            GLOBAL_ADDRESS,
-            part.number(),
-        );
-        self.order = Some(going.write_part(own, part, now));
-        self.clock.write(&self.settings, Lane::Messages, now);
-        self.echo.write(frame);
-        Pulled::Frame {
-            frame,
-            of_order: true,
-        }
-    }
-
-    /// The open order came to this.
-    fn end(&mut self, going: OpenOrder, finding: Finding, now: u64) -> Pulled
-        ensures does { DoesDeed (Deed.Ends finding) now going result self.old self.new }
-        ensures source { IsSentFromOwn result self.old.station }
-        ensures unordered { IsUnordered result self.old.station }
-    {
-        self.clear_from = clear_from_end(going.order, finding, now, self.clear_from);
-        match go_on(&mut self.order, Some(going.end(finding, now))) {
-            Some(verdict) => Pulled::Verdict(verdict),
-            None => Pulled::Nothing,
         }
     }
 }

@@ -2,6 +2,7 @@ ghost use Rattle.std.specs.Prelude.{◌≡◌, ◌≤◌, ◌<◌, ℕ, if◌the
 ghost use Rattle.live_station.specs.Turns.{StagesAlike, out_since, has_come, order_due, to_command, to_go_by, to_one, unanswered, with_part_written, with_request_written};
 ghost use Rattle.live_station.specs.Turns as turns;
 
+use crate::loss::Watch;
 use crate::open::{ANSWER_WAIT, Asked, MOST_TRIES, OpenOrder, Part, Stage};
 use crate::order::Order;
 use crate::times::behind;
@@ -30,6 +31,8 @@ pub enum Turn {
     Rests,
     /// The first frame of a lane goes.
     Writes(Lane),
+    /// Packets that are missing are asked for, or their session is given up.
+    AsksAgain(Watch),
     /// The claims of all are asked for.
     AsksClaims,
     /// The open order does this.

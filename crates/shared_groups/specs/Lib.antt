@@ -1,1 +1,4 @@
+pub mod Outgoing
+pub mod Parts
+pub mod Sending
 pub mod Sharing

@@ -1,5 +1,6 @@
--- Groups that a program shares with a station: what of the bus is the program's, what comes of it joined, and what is answered.
-use Rattle.std.specs.Prelude.{◌≡◌, ◌⊎◌, ℕ, Bool, true, false, not, ◌&&◌, ◌||◌, ◌==◌, ◌+◌, ◌-◌, ◌%◌, min, nat_eq, nat_le, nat_lt, is_some, List, [], ◌∷◌, ◌++◌, drop, length, replicate, slice_get, slice_index, slice_set, Option, Some, None, if◌then◌else◌}
+-- Groups that a program shares with a station: what of the bus is the program's, what comes of it joined, what is answered, and what a message
+-- that it sends hears.
+use Rattle.std.specs.Prelude.{◌≡◌, ◌⊎◌, ℕ, Bool, true, false, not, ◌&&◌, ◌||◌, ◌==◌, ◌+◌, ◌-◌, ◌%◌, min, nat_eq, nat_le, nat_lt, is_some, List, [], ◌∷◌, ◌++◌, length, replicate, slice_index, slice_set, Option, Some, None, if◌then◌else◌}
 use Rattle.std.specs.List.{list_any}
 use Rattle.can_frame.specs.Fields.{destination_of, pgn_of, source_of}
 use Rattle.can_frame.specs.FrameValue.{FrameValue}
@@ -18,6 +19,7 @@ use Rattle.transport.specs.declared.control.Control.TheVariants.{Rts, Cts, EndAc
 use Rattle.transport.specs.declared.control.TheConstants.Control.{RESOURCES_NEEDED}
 use Rattle.transport.specs.declared.took.Took.{Took}
 use Rattle.transport.specs.declared.took.Took.TheVariants.{More, Whole, Broken}
+use Rattle.shared_groups.specs.Outgoing.{OutgoingValue, has_packets_to, nothing_sent, outgoing_cut, when_spoken_of, with_abort, with_clear_to_send, with_end_acknowledged}
 use Rattle.shared_groups.specs.declared.joining.Tag.{Tag}
 use Rattle.shared_groups.specs.declared.waiting.Waiting.{Waiting}
 use Rattle.shared_groups.specs.declared.waiting.Waiting.TheVariants as waiting
@@ -34,11 +36,13 @@ pub record MessageValue : Type 0 where
   pub pgn : ℕ
   pub bytes : List ℕ
 
--- the groups that are shared; how many packets are granted at once at most; the station's address; the last claim's NAME of each address; what is half joined to all and to the
--- station; whether the newest request to send of an address was for a shared group; what waits to be written; the newest message that is whole
+-- the groups that are shared; how many packets are granted at once at most; the gap between packets of a broadcast; the station's address; the last
+-- claim's NAME of each address; what is half joined to all and to the station; whether the newest request to send of an address was for a shared
+-- group; what waits to be written; the newest message that is whole, and the newest that is sent
 pub record SharedValue : Type 0 where
   pub groups : List ℕ
   pub grant : ℕ
+  pub gap : ℕ
   pub held : Option ℕ
   pub owners : List (Option ℕ)
   pub broadcasts : List (Option SharedJoining)
@@ -46,16 +50,18 @@ pub record SharedValue : Type 0 where
   pub shuts : List ℕ
   pub waiting : List Waiting
   pub message : Option MessageValue
+  pub outgoing : OutgoingValue
 
 -- no address's packets are the program's
 unfoldable pub no_shuts : List ℕ
 no_shuts = replicate 256 0
 
 -- nothing is shared
-abbrev pub none_shared : Option ℕ → ℕ → SharedValue
-none_shared held grant = record {
+abbrev pub none_shared : Option ℕ → ℕ → ℕ → SharedValue
+none_shared held grant gap = record {
   groups = [];
   grant = grant;
+  gap = gap;
   held = held;
   owners = empty_table;
   broadcasts = empty_table;
@@ -63,6 +69,7 @@ none_shared held grant = record {
   shuts = no_shuts;
   waiting = [];
   message = None;
+  outgoing = nothing_sent;
 }
 
 -- ---- which groups
@@ -101,12 +108,17 @@ is_control_withheld x source destination (EndAck size packets pgn) = is_own_with
 is_control_withheld x source destination (Bam size packets pgn) = is_own_withheld x source pgn
 is_control_withheld x source destination (Abort reason pgn) = is_own_withheld x source pgn
 
--- a frame is not for the station: a request to it, or a request to send to it, of a shared group; a packet to it of such a session; and what it says itself
--- about shared groups, which the program wrote
+-- a packet is the program's: of such a session to the station, or its own, to where its newest message goes
+abbrev pub is_packet_withheld : SharedValue → ℕ → ℕ → Bool
+is_packet_withheld x source destination =
+    (is_held x.held destination && is_shut x source) || (is_held x.held source && has_packets_to destination x.outgoing)
+
+-- a frame is not for the station: a request to it, or a request to send to it, of a shared group; a packet to it of such a session; and what it says
+-- itself about shared groups, which the program wrote
 abbrev pub is_for_program : SharedValue → FrameValue → Group → Bool
 is_for_program x f (group.Request pgn destination source) = is_shared x.groups pgn && (is_held x.held destination || is_held x.held source)
 is_for_program x f (group.ConnectionManagement source destination c) = is_control_withheld x source destination c
-is_for_program x f (group.DataTransfer source destination bytes) = is_held x.held destination && is_shut x source
+is_for_program x f (group.DataTransfer source destination bytes) = is_packet_withheld x source destination
 is_for_program x f group.Other = is_own_withheld x (source_of f.id) (pgn_of f.id)
 is_for_program x f _ = false
 
@@ -118,30 +130,12 @@ with_waiting w x = record x { waiting = x.waiting ++ w ∷ [] }
 abbrev pub is_full : SharedValue → Bool
 is_full x = nat_le MOST_WAITING (length x.waiting)
 
-abbrev pub does_wait : SharedValue → Bool
-does_wait x = nat_lt 0 (length x.waiting)
-
 -- its frame from an address
 abbrev pub frame_waiting : ℕ → Waiting → FrameValue
 frame_waiting own (waiting.Grant granted next pgn to) = control_frame (Cts granted next pgn) own to
 frame_waiting own (waiting.End size packets pgn to) = control_frame (EndAck size packets pgn) own to
 frame_waiting own (waiting.Abort reason pgn to) = control_frame (Abort reason pgn) own to
 frame_waiting own (waiting.Request pgn to) = request_frame_value (record { pgn = pgn; dest = to; source = own })
-
-abbrev pub frame_of_first : ℕ → Option Waiting → Option FrameValue
-frame_of_first own None = None
-frame_of_first own (Some w) = Some (frame_waiting own w)
-
-abbrev pub frame_from : Option ℕ → Option Waiting → Option FrameValue
-frame_from None w = None
-frame_from (Some own) w = frame_of_first own w
-
--- the first frame that waits, from the address that is held
-abbrev pub frame_due : SharedValue → Option FrameValue
-frame_due x = frame_from x.held (slice_get x.waiting 0)
-
-abbrev pub without_first : SharedValue → SharedValue
-without_first x = record x { waiting = drop 1 x.waiting }
 
 -- ---- what ends messages before their time
 
@@ -150,14 +144,14 @@ abbrev pub stays_at : Option ℕ → Option ℕ → Bool
 stays_at None after = not (is_some after)
 stays_at (Some before) after = is_held after before
 
--- it took another: its sessions are over, and what waits is not written
+-- it took another: its sessions are over, what waits is not written, and what is sent goes no further
 abbrev pub moved_to : Option ℕ → SharedValue → SharedValue
-moved_to held x = record x { held = held; sessions = empty_table; shuts = no_shuts; waiting = [] }
+moved_to held x = record x { held = held; sessions = empty_table; shuts = no_shuts; waiting = []; outgoing = outgoing_cut x.outgoing }
 
 abbrev pub followed : Option ℕ → SharedValue → SharedValue
 followed held x = if stays_at x.held held then x else moved_to held x
 
--- frames were missed
+-- frames were missed: what is sent goes on
 abbrev pub shared_after_missing : SharedValue → SharedValue
 shared_after_missing x = record x { owners = empty_table; broadcasts = empty_table; sessions = empty_table; waiting = [] }
 
@@ -174,11 +168,16 @@ abbrev pub joining_kept : ℕ → Option SharedJoining → Option SharedJoining
 joining_kept name None = None
 joining_kept name (Some j) = if is_not_under j.tag name then None else Some j
 
+-- what is sent goes no further where its address is claimed by another
+abbrev pub outgoing_claimed : ℕ → ℕ → OutgoingValue → OutgoingValue
+outgoing_claimed source name o = if (o.to == source) && is_not_under_by o.owner name then outgoing_cut o else o
+
 abbrev pub sharing_claim : ℕ → ℕ → SharedValue → SharedValue
 sharing_claim source name x = record x {
   owners = slice_set x.owners source (Some name);
   broadcasts = slice_set x.broadcasts source (joining_kept name (at x.broadcasts source));
   sessions = slice_set x.sessions source (joining_kept name (at x.sessions source));
+  outgoing = outgoing_claimed source name x.outgoing;
 }
 
 -- an abort ends a session of its group
@@ -210,13 +209,21 @@ with_request_to_send source size packets most pgn x =
       shuts = slice_set x.shuts source 1;
     })
 
+-- the receiver of what is sent says something of it
+abbrev pub with_word_of : ℕ → ℕ → ℕ → (OutgoingValue → OutgoingValue) → SharedValue → SharedValue
+with_word_of source destination pgn after x =
+    if is_held x.held destination then record x { outgoing = when_spoken_of source pgn after x.outgoing } else x
+
 abbrev pub with_control : ℕ → ℕ → Control → SharedValue → SharedValue
 with_control source destination (Bam size packets pgn) x = if destination == GLOBAL_ADDRESS then with_broadcast source size pgn x else x
 with_control source destination (Rts size packets most pgn) x =
     if is_held x.held destination then with_request_to_send source size packets most pgn x else x
 with_control source destination (Abort reason pgn) x =
-    if is_held x.held destination then record x { sessions = slice_set x.sessions source (without_group pgn (at x.sessions source)) } else x
-with_control source destination _ x = x
+    if is_held x.held destination
+    then record x { sessions = slice_set x.sessions source (without_group pgn (at x.sessions source)); outgoing = when_spoken_of source pgn (with_abort reason) x.outgoing }
+    else x
+with_control source destination (Cts granted next pgn) x = with_word_of source destination pgn (with_clear_to_send granted next) x
+with_control source destination (EndAck size packets pgn) x = with_word_of source destination pgn (with_end_acknowledged size) x
 
 -- ---- what joins them
 

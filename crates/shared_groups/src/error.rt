@@ -12,12 +12,21 @@ pub enum SharedError {
     /// As much waits to be written as there is room for.
     #[error("Full")]
     Full,
-    /// It is a group of the protocol or of diagnostics, or one that is not shared.
+    /// It is a group of the protocol or of diagnostics, one that is not shared, or one that no identifier carries.
     #[error("NoGroup")]
     NoGroup,
     /// The station holds no address.
     #[error("NotHeld")]
     NotHeld,
+    /// A message has more than 1,785 bytes.
+    #[error("TooLong")]
+    TooLong,
+    /// No message of that group and size goes to that address.
+    #[error("NotAnAddress")]
+    NotAnAddress,
+    /// Another message is under way.
+    #[error("SessionOpen")]
+    SessionOpen,
 }
 
 impl From<AllocError> for SharedError {

@@ -148,13 +148,14 @@ impl SharedGroups {
     }
 
     /// The owner of an address.
-    fn owner(&self, address: u8) -> Option<Name>
+    pub(crate) fn owner(&self, address: u8) -> Option<Name>
         ensures { result ≡ at self.now.owners address }
     {
         self.owners.get(address).copied()
     }
 
-    /// A claim of an address: the NAME is its owner, and what another one began from there is dropped.
+    /// A claim of an address: the NAME is its owner, what another one began from there is dropped, and what is sent to another one there
+    /// goes no further.
     fn hear_claim(&mut self, source: u8, name: Name) -> Result<(), SharedError>
         ensures ok { OnOk result (self.new ≡ sharing.sharing_claim source name self.old) }
         ensures err { OnErr result (self.new ≡ self.old) }
@@ -164,6 +165,7 @@ impl SharedGroups {
         self.owners.put(source, name);
         keep_under(&mut self.broadcasts, source, name);
         keep_under(&mut self.sessions, source, name);
+        self.outgoing.claim(source, name);
         Ok(())
     }
 
@@ -200,8 +202,17 @@ impl SharedGroups {
                 };
                 self.hear_rts(alloc, source, announced)
             }
-            Control::Abort { pgn, .. } if to_it => {
+            Control::Abort { reason, pgn } if to_it => {
                 drop_group(&mut self.sessions, source, pgn);
+                self.outgoing.break_off(source, pgn, reason);
+                Ok(())
+            }
+            Control::Cts { granted, next, pgn } if to_it => {
+                self.outgoing.clear(source, pgn, granted, next);
+                Ok(())
+            }
+            Control::EndAck { size, pgn, .. } if to_it => {
+                self.outgoing.acknowledge(source, pgn, size);
                 Ok(())
             }
             _ => Ok(()),

@@ -1,16 +1,16 @@
 ghost use Rattle.std.specs.Prelude.{◌≡◌, ◌↔◌, ◌⊎◌, ◌<◌, ◌≤◌, IfErr, IfOk, IfSome, IsErrOf, IsNone, IsSome, OnErr, OnOk, Some, false, length, true};
 ghost use Rattle.std.specs.Option.{option_copied};
-ghost use Rattle.can_frame.specs.Fields.{source_of};
 ghost use Rattle.address_claim.specs.Claiming.{is_held};
 ghost use Rattle.parameter_group.specs.Said.{said};
 ghost use Rattle.shared_groups.specs.Sharing as sharing;
-ghost use Rattle.shared_groups.specs.Sharing.{shared_after_missing, followed, no_shuts, none_shared, sharing_also, without_first};
+ghost use Rattle.shared_groups.specs.Sharing.{followed, no_shuts, none_shared, shared_after_missing, sharing_also};
 ghost use Rattle.shared_groups.specs.declared.waiting.TheConstants.{MOST_WAITING};
 ghost use Rattle.shared_groups.specs.declared.waiting.Waiting.TheVariants as waiting;
 
 use crate::error::SharedError;
 use crate::joining::Tag;
 use crate::message::SharedMessage;
+use crate::outgoing::Outgoing;
 use crate::waiting::{MOST_WAITING, Waiting};
 use can_frame::group_numbers::{
     ACKNOWLEDGMENT, ADDRESS_CLAIMED, COMMANDED_ADDRESS, CONNECTION_MANAGEMENT, DATA_TRANSFER, DM1,
@@ -30,12 +30,13 @@ pub(crate) const SHUT: u8 = 1;
 
 /// The groups that a program shares with the station at an address.
 ///
-/// What is half joined of them, from each address one message to all and one to the station; the newest message that is whole; and
-/// what waits to be written.
+/// What is half joined of them, from each address one message to all and one to the station; the newest message that is whole; what
+/// waits to be written; and the newest message that is sent.
 #[derive(Drop)]
 pub struct SharedGroups {
     pub(crate) groups: Vec<Pgn>,
     pub(crate) grant: u8,
+    pub(crate) gap: u64,
     pub(crate) held: Option<u8>,
     pub(crate) owners: AddressTable<Name>,
     pub(crate) broadcasts: Partials<Tag>,
@@ -44,6 +45,7 @@ pub struct SharedGroups {
     pub(crate) shuts: [u8; 256],
     pub(crate) waiting: VecDeque<Waiting>,
     pub(crate) message: Option<SharedMessage>,
+    pub(crate) outgoing: Outgoing,
 }
 
 impl Model for SharedGroups {
@@ -57,6 +59,7 @@ impl Model for SharedGroups {
     ghost view = { λ s. record {
       groups = s.groups.items;
       grant = s.grant;
+      gap = s.gap;
       held = s.held;
       owners = s.owners.slots;
       broadcasts = s.broadcasts;
@@ -64,22 +67,30 @@ impl Model for SharedGroups {
       shuts = s.shuts;
       waiting = s.waiting.items;
       message = s.message;
+      outgoing = s.outgoing;
     } };
 
     ghost invariant = { λ s. (0 < s.grant) × (MOST_WAITING ≤ deque_capacity s.waiting) × (deque_len s.waiting ≤ MOST_WAITING) };
 }
 
 impl SharedGroups {
-    /// Nothing is shared at this address. At most so many packets are granted at once, at least one.
+    /// Nothing is shared at this address. At most so many packets are granted at once, at least one; those of a broadcast keep this gap,
+    /// in microseconds.
     ///
     /// Refused: where memory is.
-    pub fn new(alloc: Global, held: Option<u8>, grant: u8) -> Result<SharedGroups, AllocError>
+    pub fn new(
+        alloc: Global,
+        held: Option<u8>,
+        grant: u8,
+        gap: u64,
+    ) -> Result<SharedGroups, AllocError>
         requires { 0 < grant }
-        ensures { IfOk result (λ s. s ≡ none_shared held grant) }
+        ensures { IfOk result (λ s. s ≡ none_shared held grant gap) }
     {
         Ok(SharedGroups {
             groups: Vec::new(alloc),
             grant,
+            gap,
             held,
             owners: AddressTable::new(alloc),
             broadcasts: Partials::new(alloc),
@@ -87,6 +98,7 @@ impl SharedGroups {
             shuts: no_shuts(),
             waiting: VecDeque::with_capacity(alloc, MOST_WAITING)?,
             message: None,
+            outgoing: Outgoing::nothing(alloc),
         })
     }
 
@@ -124,7 +136,7 @@ impl SharedGroups {
         self.groups.is_empty()
     }
 
-    /// The station holds this address: where it held another, or none, its sessions are dropped, and what waits.
+    /// The station holds this address: where it held another, or none, its sessions are dropped, what waits, and what is sent.
     pub fn follow(&mut self, held: Option<u8>)
         ensures { self.new ≡ followed held self.old }
     {
@@ -135,9 +147,10 @@ impl SharedGroups {
         self.sessions.clear();
         self.shuts = no_shuts();
         self.waiting.clear();
+        self.outgoing.cut();
     }
 
-    /// Frames were missed: owners, all that is half joined and what waits are dropped.
+    /// Frames were missed: owners, all that is half joined and what waits are dropped. What is sent goes on.
     pub fn miss(&mut self)
         ensures { self.new ≡ shared_after_missing self.old }
     {
@@ -151,7 +164,7 @@ impl SharedGroups {
     ///
     /// - a request to it for a group that is shared, and a request to send one to it
     /// - a packet to it, where the newest request to send from there was such a one
-    /// - what the program itself wrote of these, which the bus told of
+    /// - what the program itself wrote of these, which the bus told of; and packets from there to where its newest message goes
     pub fn withholds(&self, frame: &Frame, group: &ParameterGroup<'_>) -> bool
         ensures { result ≡ sharing.is_for_program self.now frame.now (said group.now) }
     {
@@ -165,9 +178,9 @@ impl SharedGroups {
                 dest,
                 control,
             } => self.withholds_control(source, dest, control),
-            ParameterGroup::DataTransfer { source, dest, .. } => {
-                self.is_held(dest) && self.shuts[usize::from(source)] == SHUT
-            }
+            ParameterGroup::DataTransfer { source, dest, .. } => self.withholds_packet(
+                source, dest,
+            ),
             ParameterGroup::Other => {
                 let id = frame.id();
                 self.withholds_own(id.source(), id.pgn())
@@ -189,6 +202,14 @@ impl SharedGroups {
             Control::Bam { pgn, .. } => self.withholds_own(source, pgn),
             Control::Abort { pgn, .. } => self.withholds_own(source, pgn),
         }
+    }
+
+    /// Whether a packet is not for the station.
+    fn withholds_packet(&self, source: u8, dest: u8) -> bool
+        ensures { result ≡ sharing.is_packet_withheld self.now source dest }
+    {
+        self.is_held(dest) && self.shuts[usize::from(source)] == SHUT
+            || self.is_held(source) && self.outgoing.has_packets_to(dest)
     }
 
     /// Whether the program itself says this of a group from an address.
@@ -244,25 +265,6 @@ impl SharedGroups {
         ensures { result ≡ sharing.is_full self.now }
     {
         self.waiting.len() >= MOST_WAITING
-    }
-
-    /// Whether something waits to be written.
-    pub fn waits(&self) -> bool
-        ensures { result ≡ sharing.does_wait self.now }
-    {
-        !self.waiting.is_empty()
-    }
-
-    /// The first frame that waits, which is written now, from the address that the station holds.
-    pub fn pull(&mut self) -> Option<Frame>
-        ensures frame { result ≡ sharing.frame_due self.old }
-        ensures rest { IfSome result (λ _. self.new ≡ without_first self.old) }
-        ensures none { IsNone result → self.new ≡ self.old }
-        ensures source { IfSome result (λ f. Some (source_of f.id) ≡ self.old.held) }
-    {
-        let own = self.held?;
-        let first = self.waiting.pop_front()?;
-        Some(first.frame(own))
     }
 }
 

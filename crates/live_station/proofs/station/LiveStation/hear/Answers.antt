@@ -10,7 +10,7 @@ pub returns-clause-stands : goal.returns-clause-stands
 returns-clause-stands g c =
     on_ok_map c.hear_told.result _ _
     (λ k r grant h st.
-    stands_other r grant c.args.self.now.station c.hear_told.new.self.station h c.args.frame.now (search rules)
+    stands_other r grant c.args.self.now.station c.hear_told.new.self.station h c.args.frame.now (search rules) (search rules)
     (k c.args.frame.now (search rules) r grant (frames_told r h)) st)
     c.hear_told.ensures.stands
 
@@ -19,6 +19,6 @@ returns-clause-listed g c =
     on_ok_map c.hear_told.result _ _
     (λ k r grant h st.
     subst (λ (e : Option NewEntry). HasPut g.L.Lists.Takes c.args.lists.now e c.hear_told.new.lists)
-    (sym (entry_other r grant c.args.self.now.station h c.args.frame.now (search rules) st))
+    (sym (entry_other r grant c.args.self.now.station h c.args.frame.now (search rules) (search rules) st))
     (k c.args.frame.now (search rules) r grant (frames_told r h) st))
     c.hear_told.ensures.listed

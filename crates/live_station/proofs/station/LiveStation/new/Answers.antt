@@ -9,8 +9,9 @@ use Rattle.live_station.proofs.station.LiveStation.new.Goals as goal
 
 pub returns-clause-value : goal.returns-clause-value
 returns-clause-value c =
-    begun_of_parts c.args.name c.args.want c.args.grant c.args.times _ _ _ _ (c.station.view_is ∙ c.new-station.ensures.value)
+    begun_of_parts c.args.name c.args.want c.args.grant c.args.times _ _ _ _ _ (c.station.view_is ∙ c.new-station.ensures.value)
     (c.in_ok-queue.ensures.is ∙ ap (λ (f : FrameValue). putting false (plain f ∷ []) (empty_queue c.args.want)) c.start.ensures.frame
     ∙ ap (λ (s : StationValue). putting false (plain (own_claim s.claimer) ∷ []) (empty_queue c.args.want)) (sym c.station.view_is))
     c.at_start.ensures
     c.in_ok-new.ensures
+    c.in_ok-new-2.ensures

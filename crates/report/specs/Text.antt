@@ -1,10 +1,14 @@
 -- The text of a snapshot.
-use Rattle.std.specs.Prelude.{ℕ, List, [], ◌++◌, ◌-◌, length, replicate, Option, Some, None, codes}
+use Rattle.std.specs.Prelude.{ℕ, List, [], ◌++◌, ◌-◌, length, map, replicate, Option, Some, None, codes}
 use Rattle.std.specs.List.{flat_map}
 use Rattle.std.specs.Fmt.{decimal}
 use Rattle.hex_text.specs.Hex.{hex_digits}
+use Rattle.bus_model.specs.Heard.{missed_count, names_heard, unread_count}
 use Rattle.name_field.specs.NameText.{name_text}
 use Rattle.trouble_code.specs.LampBytes.{LampsValue}
+use Rattle.journal.specs.Journal.{GarageValue, readings_at}
+use Rattle.journal.specs.Worlds.{station_of_at}
+use Rattle.garage.specs.Snapshots.{line_at}
 use Rattle.garage.specs.declared.snapshot.Newest.{Newest}
 use Rattle.garage.specs.declared.snapshot.RowLine.{RowLine}
 use Rattle.garage.specs.declared.snapshot.Snapshot.{Snapshot}
@@ -42,3 +46,9 @@ total_text missed unread = codes "missed " ++ decimal missed ++ codes " unread "
 -- a line for each NAME, then the last line
 abbrev pub report_text : Snapshot → List ℕ
 report_text s = flat_map row_text s.rows.items ++ total_text s.missed s.unread
+
+-- the text of a station's report: a line for each NAME that it heard, then what it missed and could not read
+abbrev pub report_at : GarageValue → ℕ → List ℕ
+report_at g y =
+    flat_map row_text (map (line_at g y) (names_heard (readings_at y g.journal)))
+    ++ total_text (missed_count (readings_at y g.journal)) (unread_count (station_of_at g.settings y) (readings_at y g.journal))

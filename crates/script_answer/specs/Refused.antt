@@ -69,3 +69,7 @@ numbered_text (Some n) = codes "refused " ++ decimal n ++ codes " "
 
 abbrev pub refusal_text : Refusal → List ℕ
 refusal_text r = numbered_text (refusal_number r) ++ refusal_word r ++ codes "\n"
+
+-- the same without the line's end
+abbrev pub refusal_words : Refusal → List ℕ
+refusal_words r = numbered_text (refusal_number r) ++ refusal_word r

@@ -131,6 +131,11 @@ fn garage_word(error: GarageError) -> &'static str
 
 /// The words of its line.
 impl fmt::Display for Refusal {
+    ghost use Rattle.std.specs.Prelude.{Some};
+    ghost use Rattle.script_answer.specs.Refused.{refusal_words};
+
+    ghost output = { λ r. Some (refusal_words r) };
+
     fn fmt<W: fmt::Write>(&self, f: &mut fmt::Formatter<W>) -> fmt::Result {
         let word = self.word();
         match self.number() {

@@ -4,3 +4,4 @@ pub mod Line
 pub mod Numbers
 pub mod Spelled
 pub mod Station
+pub mod Reasons

@@ -1,3 +1,6 @@
+ghost use Rattle.std.specs.Prelude.{◌≡◌};
+ghost use Rattle.script_line.specs.Reasons.{unfit_text};
+
 use crate::numbers::{read_lamps, read_number, read_small_number};
 use crate::words::Words;
 use hex_text::read_hex;
@@ -30,6 +33,11 @@ pub enum ExpectedWord {
 
 /// Follows `is`, and tells what a word should be.
 impl fmt::Display for ExpectedWord {
+    ghost use Rattle.std.specs.Prelude.{Some};
+    ghost use Rattle.script_line.specs.Reasons.{unfit_text};
+
+    ghost output = { λ w. Some (unfit_text w) };
+
     fn fmt<W: fmt::Write>(&self, f: &mut fmt::Formatter<W>) -> fmt::Result {
         let words = words_of(*self);
         write!(f, "{words}")
@@ -37,7 +45,9 @@ impl fmt::Display for ExpectedWord {
 }
 
 /// What a word is that is not what is wanted.
-fn words_of(wanted: ExpectedWord) -> &'static str {
+fn words_of(wanted: ExpectedWord) -> &'static str
+    ensures { result.now ≡ unfit_text wanted }
+{
     match wanted {
         ExpectedWord::Name => "no NAME",
         ExpectedWord::Number | ExpectedWord::Count => "no decimal number from 0 to 4294967295",
@@ -81,34 +91,27 @@ pub enum LineReason<'a> {
 }
 
 impl fmt::Display for LineReason<'_> {
+    ghost use Rattle.std.specs.Prelude.{Some};
+    ghost use Rattle.script_line.specs.Reasons.{reason_text};
+
+    ghost output = { λ r. Some (reason_text r) };
+
     fn fmt<W: fmt::Write>(&self, f: &mut fmt::Formatter<W>) -> fmt::Result {
-        match self {
+        match *self {
+            LineReason::Blank => write!(f, "no word"),
+            LineReason::Unknown { word } => write!(f, "no command begins with '{word}'"),
+            LineReason::Missing { place } => write!(f, "{place}: missing"),
             LineReason::Unfit {
                 place,
                 word,
                 wanted,
             } => write!(f, "{place}: '{word}' is {wanted}"),
-            other => {
-                let (before, told, behind) = parts_of(*other);
-                write!(f, "{before}{told}{behind}")
-            }
+            LineReason::NoStation { word } => write!(
+                f,
+                "'{word}' takes no station: read, ask, command, shown, row, stats and report do"
+            ),
+            LineReason::Behind { word } => write!(f, "'{word}' stands behind the command"),
         }
-    }
-}
-
-/// What is told of a reason: the word or the place that it tells, and what stands before and behind that.
-fn parts_of(reason: LineReason<'_>) -> (&str, &str, &str) {
-    match reason {
-        LineReason::Blank => ("no word", "", ""),
-        LineReason::Unknown { word } => ("no command begins with '", word, "'"),
-        LineReason::Missing { place } => ("", place, ": missing"),
-        LineReason::Unfit { place, word, .. } => (place, word, ""),
-        LineReason::NoStation { word } => (
-            "'",
-            word,
-            "' takes no station: read, ask, command, shown, row, stats and report do",
-        ),
-        LineReason::Behind { word } => ("'", word, "' stands behind the command"),
     }
 }
 
@@ -353,10 +356,7 @@ fn fits(word: &str, wanted: ExpectedWord) -> bool {
 }
 
 fn is_kind(word: &str) -> bool {
-    match word {
-        "plain" | "guarded" | "flicker" => true,
-        _ => false,
-    }
+    matches!(word, "plain" | "guarded" | "flicker")
 }
 
 fn is_what(word: &str) -> bool {
@@ -367,8 +367,5 @@ fn is_what(word: &str) -> bool {
 }
 
 fn is_which(word: &str) -> bool {
-    match word {
-        "dm1" | "dm2" | "dm6" => true,
-        _ => false,
-    }
+    matches!(word, "dm1" | "dm2" | "dm6")
 }

@@ -4,4 +4,7 @@ mod Searching
 mod Stations
 mod Stepping
 mod AtBench
+mod WireLog
 mod Refusing
+mod Relaying
+mod Ending

@@ -1,26 +1,20 @@
 -- What a query of a script is answered: what the garage shows, at the station that the line names.
-use Rattle.std.specs.Prelude.{ℕ, List, ◌++◌, ◌⊎◌, map, reverse, Option, Some, None, Result, Ok, Err, slice_get}
-use Rattle.std.specs.Io.KnownBytes.{Appends}
-use Rattle.std.specs.List.{flat_map}
+use Rattle.std.specs.Prelude.{ℕ, List, reverse, Option, Some, None, Result, Ok, Err, slice_get}
 use Rattle.std.specs.Option.{option_map}
 use Rattle.bus_ledger.specs.BusValue.{SeatValue}
 use Rattle.bus_ledger.specs.Ledger.{counts_of}
-use Rattle.bus_model.specs.Heard.{entries_heard, missed_count, names_heard, unread_count}
+use Rattle.bus_model.specs.Heard.{entries_heard}
 use Rattle.entry_lists.specs.KeptValue.{kept_under}
 use Rattle.entry_lists.specs.KnownRows.{row_of}
+use Rattle.dm_messages.specs.declared.kind.Kind.{Kind}
 use Rattle.journal.specs.Journal.{GarageValue, injected_of, readings_at, state_of}
 use Rattle.journal.specs.State.{table_at}
 use Rattle.journal.specs.Worlds.{station_of_at}
-use Rattle.garage.specs.Snapshots.{line_at}
 use Rattle.report.specs.Shown.{shown_text}
-use Rattle.report.specs.Text.{row_text, total_text}
-use Rattle.garage.specs.declared.error.GarageError.TheVariants.{OutOfMemory}
-use Rattle.script_answer.specs.Refused.{refusal_text}
-use Rattle.script_answer.specs.Text.{answer_text}
 use Rattle.script_answer.specs.declared.answer.LineAnswer.{LineAnswer}
 use Rattle.script_answer.specs.declared.answer.LineAnswer.TheVariants as answer
 use Rattle.script_answer.specs.declared.refusal.Refusal.{Refusal}
-use Rattle.script_answer.specs.declared.refusal.Refusal.TheVariants.{Garage, NoSeat}
+use Rattle.script_answer.specs.declared.refusal.Refusal.TheVariants.{NoSeat}
 use Rattle.script_line.specs.declared.command.Command.{Command}
 use Rattle.script_line.specs.declared.command.Command.TheVariants as command
 
@@ -38,17 +32,6 @@ query_answer g y command.Injected = Some (Ok (answer.Injected (injected_of g.jou
 query_answer g y (command.Frame index) = Some (Ok (answer.Frame (option_map (λ c. c.frame) (slice_get (state_of g).traffic.wire index))))
 query_answer g y _ = None
 
--- the text of a query's answer: of what is shown, the list that this station heard under the NAME, of this kind
-abbrev pub query_text : GarageValue → ℕ → Command → Option (List ℕ)
-query_text g y (command.Shown (Ok name) kind) = Some (shown_text (reverse (entries_heard (station_of_at g.settings y) name kind (readings_at y g.journal))))
-query_text g y c = option_map answer_text (query_answer g y c)
-
--- the text of a station's report: a line for each NAME that it heard, then what it missed and could not read
-abbrev pub report_at : GarageValue → ℕ → List ℕ
-report_at g y =
-    flat_map row_text (map (line_at g y) (names_heard (readings_at y g.journal)))
-    ++ total_text (missed_count (readings_at y g.journal)) (unread_count (station_of_at g.settings y) (readings_at y g.journal))
-
--- a report was told; or there was no memory to put it together, which was told
-abbrev pub Reports : GarageValue → ℕ → Option (List ℕ) → Option (List ℕ) → Type 0
-Reports g y old new = Appends old new (report_at g y) ⊎ Appends old new (refusal_text (Garage OutOfMemory))
+-- the text of what is shown: the list that this station heard under the NAME, of this kind
+abbrev pub list_shown_at : GarageValue → ℕ → ℕ → Kind → List ℕ
+list_shown_at g y name kind = shown_text (reverse (entries_heard (station_of_at g.settings y) name kind (readings_at y g.journal)))

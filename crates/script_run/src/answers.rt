@@ -31,7 +31,8 @@ use std::io::{Read, Write};
 pub fn script<R: Read, W: Write>(alloc: Global, reader: &mut R, writer: &mut W) -> Result<(), Fault>
     ensures unanswered { IfErr result (λ fault. IsOfInput fault → writer.new ≡ writer.old) }
     ensures too_long { result ≡ Err Fault.InputTooLong → IfSome (R.remaining reader.old) (λ bytes. input_limit < length bytes) }
-    ensures answered { OnOk result (IfSome (R.remaining reader.old) (λ input. IsScriptAnswered (lines input) (W.contents writer.old) (W.contents writer.new))) }
+    ensures answered { OnOk result (IfSome (R.remaining reader.old) (λ input. IsScriptAnswered (lines input)
+        (W.contents writer.old) (W.contents writer.new))) }
 {
     let text = read_text(alloc, reader)?;
     answer_text(alloc, text.as_str(), writer)
@@ -43,7 +44,7 @@ fn answer_text<W: Write>(alloc: Global, text: &str, writer: &mut W) -> Result<()
     ensures answered { OnOk result (IsScriptAnswered (lines text.now) (W.contents writer.old) (W.contents writer.new)) }
 {
     let mut answers = Answers::new(writer);
-    answer_lines(alloc, text, &mut answers)?;
+    answers.answer_all(alloc, text)?;
     match answers.flush() {
         Ok(()) => Ok(()),
         Err(_) => Err(Fault::Write),
@@ -70,10 +71,22 @@ impl<'a, W: Write> Answers<'a, W> {
         }
     }
 
+    /// Answers the lines of a text, which are held or written.
+    fn answer_all(&mut self, alloc: Global, text: &str) -> Result<(), Fault>
+        ensures fault { IfErr result (λ fault. fault ≡ Fault.Write) }
+        ensures lent { OnOk result (self.new.writer.ghost_name ≡ self.old.writer.ghost_name) }
+        ensures answered { OnOk result (IsScriptAnswered (lines text.now)
+            (append_known (W.contents self.old.writer.now) self.old.held)
+            (append_known (W.contents self.new.writer.now) self.new.held)) }
+    {
+        answer_lines(alloc, text, self)
+    }
+
     /// Writes what is held, and has the writer write what it holds.
     fn flush(&mut self) -> io::Result<()>
         ensures lent { self.new.writer.ghost_name ≡ self.old.writer.ghost_name }
-        ensures written { OnOk result (Keeps (append_known (W.contents self.old.writer.now) self.old.held) (W.contents self.new.writer.now)) }
+        ensures written { OnOk result (Keeps (append_known (W.contents self.old.writer.now) self.old.held)
+            (W.contents self.new.writer.now)) }
     {
         self.held.write_to(self.writer)?;
         self.writer.flush()
@@ -83,12 +96,19 @@ impl<'a, W: Write> Answers<'a, W> {
 /// It is given each answer, and nothing else.
 impl<W: Write> AnswerSink for Answers<'_, W> {
     ghost use Rattle.std.specs.Prelude.{◌≡◌};
-    ghost use Rattle.std.specs.Io.KnownBytes.{append_known};
+    ghost use Rattle.std.specs.Io.KnownBytes.{Appends, append_known};
     ghost use Rattle.program_io.specs.declared.fault.Fault.TheVariants as fault;
+    ghost use Rattle.script_run.specs.Lines.{told_text};
 
-    ghost told = { λ a. append_known (W.contents a.writer.now) a.held };
+    ghost begins = { λ a b. b ≡ a };
 
-    ghost lent = { λ a. a.writer.ghost_name };
+    ghost takes = { λ a told b. (b.writer.ghost_name ≡ a.writer.ghost_name)
+        × Appends (append_known (W.contents a.writer.now) a.held)
+        (append_known (W.contents b.writer.now) b.held) (told_text told) };
+
+    ghost ends = { λ _ _ a b. b ≡ a };
+
+    ghost closes = { λ _ a b. b ≡ a };
 
     ghost ends_by = { λ f. f ≡ fault.Write };
 

@@ -1,11 +1,14 @@
-ghost use Rattle.std.specs.Prelude.{◌≡◌, ◌<◌, [], length, IfSome, IsSome, OnOk, slice_get};
+ghost use Rattle.std.specs.Prelude.{◌≡◌, ◌⊎◌, ◌<◌, [], length, IfSome, IsSome, OnOk, slice_get};
+ghost use Rattle.std.specs.Option.{option_map};
 ghost use Rattle.journal.specs.Journal.{state_of};
 ghost use Rattle.garage.specs.ParkedUnits.{asked_of, sitting_of};
+ghost use Rattle.report.specs.Text.{report_at};
 ghost use Rattle.script_run.specs.Commands.{ActsBy, Does, Joins, Leaves};
-ghost use Rattle.script_run.specs.Lines.{BenchDoes, StationDoes, WritesText};
+ghost use Rattle.script_run.specs.Lines.{Answered, BenchDoes, Showed, StationDoes};
 ghost use Rattle.script_run.specs.Moves.{MovesByJoining};
 ghost use Rattle.script_run.specs.Steps.{RunsRounds};
-ghost use Rattle.script_run.specs.Queries.{Reports, counts_answer, query_answer};
+ghost use Rattle.script_run.specs.Queries.{counts_answer, query_answer};
+ghost use Rattle.script_run.specs.Sinks.{IsToldSo};
 
 use crate::answer_sink::AnswerSink;
 use crate::garage_commands::{ask, carry, command_to, inject, read, run_rounds};
@@ -77,7 +80,9 @@ impl Bench {
     }
 
     /// The frame of the wire with this number, from 0.
-    pub(crate) fn frame(&self, index: u32) -> Option<Frame> {
+    pub(crate) fn frame(&self, index: u32) -> Option<Frame>
+        ensures { result ≡ option_map (λ c. c.frame) (slice_get (state_of self.now.garage).traffic.wire index) }
+    {
         self.garage.wire_frame(index)
     }
 
@@ -88,9 +93,7 @@ impl Bench {
         read: &Option<ScriptLine>,
         sink: &mut L,
     ) -> Result<(), Unwritten>
-        ensures lent { L.AnswerSink.lent sink.new ≡ L.AnswerSink.lent sink.old }
-        ensures does { OnOk result (WritesText (L.AnswerSink.told sink.old) (L.AnswerSink.told sink.new) (λ text. BenchDoes read.now
-            self.old.garage text self.new.garage)) }
+        ensures does { OnOk result (IsToldSo L.AnswerSink.takes (λ told. BenchDoes read.now self.old.garage told self.new.garage) sink.old sink.new) }
     {
         match read {
             Some(ScriptLine { station, command }) if *station < self.garage.stations() => {
@@ -108,9 +111,8 @@ impl Bench {
         sink: &mut L,
     ) -> Result<(), Unwritten>
         requires { station < length self.old.garage.settings.stations }
-        ensures lent { L.AnswerSink.lent sink.new ≡ L.AnswerSink.lent sink.old }
-        ensures does { OnOk result (WritesText (L.AnswerSink.told sink.old) (L.AnswerSink.told sink.new) (λ text. StationDoes station command.now
-            self.old.garage text self.new.garage)) }
+        ensures does { OnOk result (IsToldSo L.AnswerSink.takes (λ told. StationDoes station command.now self.old.garage told self.new.garage)
+            sink.old sink.new) }
     {
         match command {
             Command::Shown {
@@ -122,11 +124,11 @@ impl Bench {
         }
     }
 
-    /// WritesText the report of a station.
+    /// Tells the report of a station.
     fn report<L: AnswerSink>(&self, station: u32, sink: &mut L) -> Result<(), Unwritten>
         requires { station < length self.now.garage.settings.stations }
-        ensures lent { L.AnswerSink.lent sink.new ≡ L.AnswerSink.lent sink.old }
-        ensures told { OnOk result (Reports self.now.garage station (L.AnswerSink.told sink.old) (L.AnswerSink.told sink.new)) }
+        ensures takes { OnOk result (IsToldSo L.AnswerSink.takes (λ told. (told ≡ Showed (report_at self.now.garage station))
+            ⊎ (told ≡ Answered (Err (Refusal.Garage GarageError.OutOfMemory)))) sink.old sink.new) }
     {
         match self.garage.snapshot_at(self.alloc, station) {
             Ok(snapshot) => sink.report(&snapshot),

@@ -1,7 +1,8 @@
-ghost use Rattle.std.specs.Prelude.{◌≡◌, None, IfErr, IsErr, OnOk};
+ghost use Rattle.std.specs.Prelude.{◌≡◌, None, IfErr, IsErr, IsOk, OnOk};
 ghost use Rattle.std.specs.Option.{option_map};
 ghost use Rattle.std.specs.Str.Lines.{lines};
-ghost use Rattle.script_run.specs.Lines.{FirstDoes, IsScriptAnswered, Makes, WritesText, unit_joined_by, setting_meant};
+ghost use Rattle.script_run.specs.Lines.{FirstDoes, Makes, unit_joined_by, setting_meant};
+ghost use Rattle.script_run.specs.Sinks.{Closes, IsToldSo, TakesScript};
 
 use crate::answer_sink::AnswerSink;
 use crate::bench::Bench;
@@ -20,8 +21,9 @@ pub(crate) fn answer_lines<L: AnswerSink>(
     sink: &mut L,
 ) -> Result<(), Fault>
     ensures ends { IfErr result L.ends_by }
-    ensures lent { L.AnswerSink.lent sink.new ≡ L.AnswerSink.lent sink.old }
-    ensures answered { OnOk result (IsScriptAnswered (lines text.now) (L.AnswerSink.told sink.old) (L.AnswerSink.told sink.new)) }
+    ensures answered { OnOk result (TakesScript
+        (record { begins = L.AnswerSink.begins; takes = L.AnswerSink.takes; ends = L.AnswerSink.ends })
+        L.AnswerSink.closes (lines text.now) sink.old sink.new) }
 {
     let mut bench: Option<Bench> = None;
     let mut heard = Ok(());
@@ -63,8 +65,7 @@ fn close<L: AnswerSink>(
     requires { IfErr answered L.ends_by }
     ensures ends { IfErr result L.ends_by }
     ensures unanswered { IsErr answered → IsErr result }
-    ensures lent { L.AnswerSink.lent sink.new ≡ L.AnswerSink.lent sink.old }
-    ensures told { L.AnswerSink.told sink.new ≡ L.AnswerSink.told sink.old }
+    ensures closed { OnOk result (Closes L.AnswerSink.closes (option_map (λ b. b.garage) bench) sink.old sink.new) }
 {
     let Some(bench) = bench else {
         return answered;
@@ -115,9 +116,9 @@ fn begin<L: AnswerSink>(
     bench: &mut Option<Bench>,
     sink: &mut L,
 ) -> Result<(), Unwritten>
-    ensures lent { L.AnswerSink.lent sink.new ≡ L.AnswerSink.lent sink.old }
-    ensures does { bench.old ≡ None → OnOk result (WritesText (L.AnswerSink.told sink.old) (L.AnswerSink.told sink.new)
-        (λ text. FirstDoes read.now text (option_map (λ b. b.garage) bench.new))) }
+    ensures does { bench.old ≡ None → OnOk result (IsToldSo L.AnswerSink.takes
+        (λ told. FirstDoes read.now told (option_map (λ b. b.garage) bench.new))
+        sink.old sink.new) }
 {
     let Some(line) = read else {
         return sink.answer(Err(Refusal::BadLine));

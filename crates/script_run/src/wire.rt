@@ -1,4 +1,7 @@
-ghost use Rattle.std.specs.Prelude.{◌≡◌, ◌≤◌, IfErr};
+ghost use Rattle.std.specs.Prelude.{◌≡◌, IfErr, IfOk, OnOk};
+ghost use Rattle.std.specs.Option.{option_map};
+ghost use Rattle.std.specs.Io.KnownBytes.{Appends};
+ghost use Rattle.script_run.specs.Telling.{IsWire, wire_log};
 
 use crate::bench::Bench;
 use candump_line::{Time, write_line};
@@ -15,7 +18,6 @@ pub(crate) struct Wire<'a> {
     bus: &'a str,
     /// How many microseconds stand between two frames, 1 to 1,000,000.
     period: u64,
-    ghost period_fits: { period ≤ 1000000 },
 }
 
 impl<'a> Wire<'a> {
@@ -24,7 +26,10 @@ impl<'a> Wire<'a> {
     ///
     /// # Errors
     /// A word is none that its option takes.
-    pub(crate) fn of(words: LogArguments<'a>) -> Result<Wire<'a>, ArgumentError<'a>> {
+    pub(crate) fn of(words: LogArguments<'a>) -> Result<Wire<'a>, ArgumentError<'a>>
+        ensures { IfOk result (λ wire. IsWire (option_map (λ s. s.now) words.entry.bus)
+            (option_map (λ s. s.now) words.entry.period) wire.bus.now wire.period) }
+    {
         let bus = words.bus.unwrap_or("can0");
         if !is_bus(bus) {
             return Err(ArgumentError {
@@ -48,14 +53,16 @@ impl<'a> Wire<'a> {
 
     /// Writes each frame of the wire: frame I, from 0, at I periods.
     pub(crate) fn write<W: Write>(self, bench: &Bench, writer: &mut W) -> Result<(), Fault>
-        ensures { IfErr result (λ fault. fault ≡ Fault.Write) }
+        ensures fault { IfErr result (λ fault. fault ≡ Fault.Write) }
+        ensures written { OnOk result (Appends (W.contents writer.old) (W.contents writer.new)
+            (wire_log self.entry.bus.now self.entry.period bench.now.garage)) }
     {
         for index in 0..u32::MAX {
             let Some(frame) = bench.frame(index) else {
                 break;
             };
             let Some(time) = Time::from_micros(u64::from(index).saturating_mul(self.period)) else {
-                break;
+                return Err(Fault::Write);
             };
             if write_line(writer, time, self.bus, &frame).is_err() {
                 return Err(Fault::Write);

@@ -1,9 +1,9 @@
 -- An end compared with the journal.
-use Rattle.std.proofs.Common.{◌≡◌, ◌⊎◌, ℕ, ◌≢◌, inl, inr, ◌+◌, ◌<◌, ◌≤◌, List, ◌++◌, Option, Some, None, take, drop, length, arith, refl, sym, subst, ◌∙◌}
+use Rattle.std.proofs.Common.{◌≡◌, ◌⊎◌, ℕ, ◌≢◌, inl, inr, ◌+◌, ◌<◌, ◌≤◌, Bool, true, false, List, ◌++◌, Option, Some, None, take, drop, length, arith, refl, sym, ap, subst, ◌∙◌}
 use Rattle.std.proofs.Math.Seq.{take-length}
-use Rattle.std.proofs.lemmas.Bool.{cases_eq}
+use Rattle.std.proofs.lemmas.Bool.{cases_eq, leb-true, leb-false, ltb-true, ltb-false}
 use Rattle.std.proofs.lemmas.List.{take-append-le, get_or-set_same, get_or-set_other}
-use Rattle.std.specs.Prelude.{slice_set}
+use Rattle.std.specs.Prelude.{nat_le, nat_lt, slice_set}
 use Rattle.std.specs.List.{All}
 use Rattle.journal.specs.Journal.{GarageValue, joins, tally_of}
 use Rattle.journal.specs.declared.tally.Tally.{Tally}
@@ -12,23 +12,30 @@ use Rattle.garage.specs.declared.error.GarageError.TheVariants.{Stranger}
 use Rattle.unit_threads.specs.declared.ended.Ended.{Ended}
 use Rattle.unit_threads.specs.declared.ended.EndReason.{EndReason}
 use Rattle.unit_threads.specs.declared.ended.EndReason.TheVariants as reason
-use Rattle.unit_threads.specs.Ends.{Agrees, AgreesAt, HaveOwnSeats, HaveOwnSeatsTo, IsCounted, IsSeatless, IsUnseated, end_at, nothing}
+use Rattle.unit_threads.specs.Ends.{counts_told, Agrees, AgreesAt, HaveOwnSeats, HaveOwnSeatsTo, IsCounted, IsSeatless, IsUnseated, end_at, nothing}
+
+-- the counts that a garage tells
+pub counted_so : (g : GarageValue) (k : ℕ) (t : Tally) → (length g.settings.stations ≤ k → k < length g.settings.stations + joins g.journal → t ≡ tally_of k g.journal)
+    → (((k < length g.settings.stations) ⊎ (length g.settings.stations + joins g.journal ≤ k)) → t ≡ no_events) → t ≡ counts_told k g
+counted_so g k t given never = go (nat_le (length g.settings.stations) k) refl (nat_lt k (length g.settings.stations + joins g.journal)) refl
+  where
+    go : (x : Bool) → nat_le (length g.settings.stations) k ≡ x → (y : Bool) → nat_lt k (length g.settings.stations + joins g.journal) ≡ y → t ≡ counts_told k g
+    go true e true f = rw (e, f) (given (leb-true _ _ e) (ltb-true _ _ f))
+    go true e false f = rw (e, f) (never (inr (ltb-false _ _ f)))
+    go false e y f = rw e (never (inl (leb-false _ _ e)))
 
 -- with a seat
-pub agrees_seated : (turns : ℕ) (g : GarageValue) (k : ℕ) (t : Tally) (refusal : Option EndReason)
-    → (length g.settings.stations ≤ k → k < length g.settings.stations + joins g.journal → t ≡ tally_of k g.journal) → (((k < length g.settings.stations) ⊎ (length g.settings.stations + joins g.journal ≤ k)) → t ≡ no_events) → AgreesAt turns t t.events refusal
+pub agrees_seated : (turns : ℕ) (g : GarageValue) (k : ℕ) (t : Tally) (refusal : Option EndReason) → t ≡ counts_told k g → AgreesAt turns t t.events refusal
     → Agrees turns g (record { seat = Some k; events = t.events; refusal = refusal })
-agrees_seated turns g k t refusal given never at = record { agrees = (t, record { given = given; never = never }, at) }
+agrees_seated turns g k t refusal told at = record { agrees = subst (λ (x : Tally). AgreesAt turns x t.events refusal) told at }
 
 -- without one
 pub agrees_unseated : (turns : ℕ) (g : GarageValue) (r : EndReason) → IsUnseated (Some r) → Agrees turns g (record { seat = None; events = 0; refusal = Some r })
 agrees_unseated turns g r h = record { agrees = (refl, h) }
 
 -- a stranger's
-pub agrees_stranger : (turns : ℕ) (g : GarageValue) (k : ℕ) (t : Tally)
-    → (length g.settings.stations ≤ k → k < length g.settings.stations + joins g.journal → t ≡ tally_of k g.journal) → (((k < length g.settings.stations) ⊎ (length g.settings.stations + joins g.journal ≤ k)) → t ≡ no_events)
-    → Agrees turns g (record { seat = Some k; events = t.events; refusal = Some (reason.Garage Stranger) })
-agrees_stranger turns g k t given never = record { agrees = (t, record { given = given; never = never }, refl) }
+pub agrees_stranger : (turns : ℕ) (g : GarageValue) (k : ℕ) (t : Tally) → t ≡ counts_told k g → Agrees turns g (record { seat = Some k; events = t.events; refusal = Some (reason.Garage Stranger) })
+agrees_stranger turns g k t told = record { agrees = ap (λ (x : Tally). x.events) told }
 
 same_slice : (xs ys : List Ended) (n : ℕ) → n ≡ length xs → take n (xs ++ drop (length xs) ys) ≡ xs
 same_slice xs ys n e = rw e (take-append-le (length xs) xs (drop (length xs) ys) (omega arith) ∙ take-length xs)
@@ -47,6 +54,11 @@ more P es i e lt before new k b = go (cases_eq k i)
     go : (k ≡ i) ⊎ (k ≢ i) → P k (end_at (slice_set es i e) k)
     go (inl same) = subst (λ (q : ℕ). P q (end_at (slice_set es i e) q)) (sym same) (subst (λ (x : Ended). P i x) (sym (get_or-set_same es i e nothing lt)) new)
     go (inr apart) = subst (λ (x : Ended). P k x) (sym (get_or-set_other es i k e nothing apart)) (before k (omega arith))
+
+-- that each end agrees with the journal
+pub agree_more : (turns : ℕ) (g : GarageValue) (es : List Ended) (i : ℕ) (e : Ended) → i < length es → ((k : ℕ) → k < i → Agrees turns g (end_at es k)) → Agrees turns g e
+    → (k : ℕ) → k < i + 1 → Agrees turns g (end_at (slice_set es i e) k)
+agree_more turns g es i e lt before new k b = more (λ q x. Agrees turns g x) es i e lt before new k b
 
 pub seatless_more : (xs es : List Ended) (i : ℕ) (e : Ended) → i < length es → ((k : ℕ) → k < i → IsSeatless (end_at xs k) → IsSeatless (end_at es k)) → (IsSeatless (end_at xs i) → IsSeatless e)
     → (k : ℕ) → k < i + 1 → IsSeatless (end_at xs k) → IsSeatless (end_at (slice_set es i e) k)

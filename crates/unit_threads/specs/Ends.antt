@@ -1,5 +1,5 @@
 -- What is told of the end of a unit's thread.
-use Rattle.std.specs.Prelude.{ℕ, ◌≡◌, ◌≢◌, ◌⊎◌, ◌+◌, ◌<◌, ◌≤◌, List, Option, Some, None, length, slice_index_or}
+use Rattle.std.specs.Prelude.{ℕ, ◌≡◌, ◌≢◌, ◌⊎◌, ◌+◌, ◌<◌, ◌≤◌, ◌&&◌, nat_le, nat_lt, if◌then◌else◌, List, Option, Some, None, codes, length, slice_index_or}
 use Rattle.journal.specs.Journal.{GarageValue, joins, tally_of}
 use Rattle.journal.specs.declared.tally.Tally.{Tally}
 use Rattle.garage.specs.Calls.{IsNoMemoryOrFull}
@@ -7,6 +7,7 @@ use Rattle.garage.specs.Opening.{no_events}
 use Rattle.garage.specs.Refusals.{IsJoinRefusal, garage_error_number}
 use Rattle.garage.specs.declared.error.GarageError.{GarageError}
 use Rattle.garage.specs.declared.error.GarageError.TheVariants.{NotAnAddress, Stranger, TooManySeats}
+use Rattle.script_answer.specs.Refused.{garage_word}
 use Rattle.unit_threads.specs.declared.ended.Ended.{Ended}
 use Rattle.unit_threads.specs.declared.ended.EndReason.{EndReason}
 use Rattle.unit_threads.specs.declared.ended.EndReason.TheVariants as reason
@@ -16,14 +17,19 @@ abbrev pub number_of_end : EndReason → ℕ
 number_of_end (reason.Garage e) = garage_error_number e
 number_of_end reason.NoThread = 27
 
+-- and its name
+abbrev pub word_of_end : EndReason → List ℕ
+word_of_end (reason.Garage e) = garage_word e
+word_of_end reason.NoThread = codes "NoThread"
+
 -- what a mount is refused with
 abbrev pub IsMountRefusal : GarageError → Type 0
 IsMountRefusal e = (e ≡ NotAnAddress) ⊎ IsJoinRefusal e
 
--- what the garage tells of a seat: its counts in the journal, none where no unit got that number
-pub record IsToldOf (k : ℕ) (g : GarageValue) (t : Tally) : Type 0 where
-  pub given : length g.settings.stations ≤ k → k < length g.settings.stations + joins g.journal → t ≡ tally_of k g.journal
-  pub never : ((k < length g.settings.stations) ⊎ (length g.settings.stations + joins g.journal ≤ k)) → t ≡ no_events
+-- the counts of a seat in the journal; none where no unit got that number
+abbrev pub counts_told : ℕ → GarageValue → Tally
+counts_told k g =
+    if nat_le (length g.settings.stations) k && nat_lt k (length g.settings.stations + joins g.journal) then tally_of k g.journal else no_events
 
 -- a seat that ended without a refusal: it joined, had all its turns and left, and these are its events
 abbrev pub IsWhole : ℕ → Tally → ℕ → Type 0
@@ -47,7 +53,7 @@ IsUnseated (Some reason.NoThread) = Unit {0}
 IsUnseated (Some (reason.Garage e)) = IsMountRefusal e
 
 abbrev pub AgreesWith : ℕ → GarageValue → Option ℕ → ℕ → Option EndReason → Type 0
-AgreesWith turns g (Some k) events refusal = (t : Tally) × IsToldOf k g t × AgreesAt turns t events refusal
+AgreesWith turns g (Some k) events refusal = AgreesAt turns (counts_told k g) events refusal
 AgreesWith turns g None events refusal = (events ≡ 0) × IsUnseated refusal
 
 -- the end of a unit for which no seat was left

@@ -1,19 +1,23 @@
 //! `threads`: a vehicle's units, each in a thread of its own, while its stations read.
 
-ghost use Rattle.std.specs.Prelude.{◌≡◌, ◌⊎◌, ◌<◌, length, vec_len, IfErr, IfOk, IfSome};
+ghost use Rattle.std.specs.Prelude.{◌≡◌, ◌⊎◌, ◌<◌, length, vec_len, IfErr, IfOk, IfSome, OnOk};
+ghost use Rattle.std.specs.Io.KnownBytes.{Appends, Keeps};
 ghost use Rattle.program_io.specs.Fault.{IsOfInput};
 ghost use Rattle.program_io.specs.Input.{input_limit};
 ghost use Rattle.garage.specs.Opening.{new_garage, setting_value};
+ghost use Rattle.report.specs.Text.{report_at};
 ghost use Rattle.unit_threads.specs.Opened.{second_wanted, settings_wanted};
+ghost use Rattle.unit_threads.specs.Written.{HaveRun, IsRunTold, IsSpelled, IsVehicleTold, tally_text, unit_end_text, ends_text, outcome_text, end_reason_text, reports_text, run_text};
 
-use crate::ended::Ended;
+use crate::compare::counts_of;
+use crate::ended::{EndReason, Ended};
 use crate::running::{Gate, Ran, run};
 use garage::{Garage, GarageError, Setting};
 use journal::Tally;
 use program_io::{Failure, Fault, read_text};
 use std::alloc::Global;
 use std::io;
-use std::io::{BufWriter, Read, Write};
+use std::io::{Read, Write};
 use std::sync::Wait;
 use std::thread::Threads;
 use unit_trait::{Simulated, Unit};
@@ -32,7 +36,8 @@ impl Gate for Open {
 /// Reads a vehicle and runs each of its units in a thread of its own, while the stations read in this one. Then it writes
 /// how each unit ended, a line each, and where that is wanted the report of each station.
 ///
-/// The whole input is read first. It returns only if the threads do.
+/// The whole input is read first. It returns only if the threads do. At the end the writer is flushed; one that holds what it is
+/// given spares calls.
 ///
 /// # Errors
 /// - `Read`: a read failed.
@@ -52,6 +57,8 @@ pub fn threads<R: Threads + Wait + Sync, I: Read, W: Write>(
     ensures unanswered { IfErr result (λ failure. IsOfInput failure.fault → writer.new ≡ writer.old) }
     ensures too_long { IfErr result
         (λ failure. failure.fault ≡ Fault.InputTooLong → IfSome (I.remaining reader.old) (λ bytes. input_limit < length bytes)) }
+    ensures told { OnOk result (IfSome (I.remaining reader.old) (λ input. IsVehicleTold turns report input
+        (W.contents writer.old) (W.contents writer.new))) }
 {
     let vehicle = vehicle_of(alloc, reader)?;
     match run_vehicle(rt, alloc, &vehicle, turns, reads, report, writer) {
@@ -61,6 +68,7 @@ pub fn threads<R: Threads + Wait + Sync, I: Read, W: Write>(
 }
 
 /// Runs a vehicle, and writes how it ended.
+#[tactic(auto, using(crate::proofs::Writing::run_told))]
 fn run_vehicle<R: Threads + Wait + Sync, W: Write>(
     rt: &R,
     alloc: Global,
@@ -73,6 +81,7 @@ fn run_vehicle<R: Threads + Wait + Sync, W: Write>(
     requires few { vec_len vehicle.now.units < 4294967296 }
     ensures unanswered { IfErr result (λ fault. IsOfInput fault → writer.new ≡ writer.old) }
     ensures not_long { IfErr result (λ fault. (fault ≡ Fault.Write) ⊎ (fault ≡ Fault.Memory) ⊎ (fault ≡ Fault.Vehicle)) }
+    ensures told { OnOk result (IsRunTold turns vehicle.now report (W.contents writer.old) (W.contents writer.new)) }
 {
     let (garage, ran) = run_units(rt, alloc, vehicle, turns, reads)?;
     write_run(alloc, writer, &garage, ran.ended.as_slice(), report)
@@ -81,6 +90,7 @@ fn run_vehicle<R: Threads + Wait + Sync, W: Write>(
 /// The vehicle that an input describes.
 fn vehicle_of<I: Read>(alloc: Global, reader: &mut I) -> Result<Vehicle, Failure>
     ensures few { IfOk result (λ vehicle. vec_len vehicle.units < 4294967296) }
+    ensures spelled { IfOk result (λ vehicle. IfSome (I.remaining reader.old) (λ input. IsSpelled input vehicle)) }
     ensures too_long { IfErr result
         (λ failure. failure.fault ≡ Fault.InputTooLong → IfSome (I.remaining reader.old) (λ bytes. input_limit < length bytes)) }
 {
@@ -161,6 +171,8 @@ fn run_units<R: Threads + Wait + Sync>(
     reads: u32,
 ) -> Result<(Garage, Ran), Fault>
     ensures faults { IfErr result (λ fault. (fault ≡ Fault.Memory) ⊎ (fault ≡ Fault.Vehicle)) }
+    ensures ran { IfOk result (λ r. HaveRun turns (vec_len vehicle.now.units)
+        (new_garage (settings_wanted vehicle.now.station vehicle.now.second)) r.0 r.1.ended.items) }
 {
     let mut units: Vec<(Box<dyn Unit>, u8)> = Vec::new(alloc);
     for line in vehicle.units.as_slice() {
@@ -170,7 +182,11 @@ fn run_units<R: Threads + Wait + Sync>(
     let garage = garage_of(alloc, vehicle.station, vehicle.second)?;
     let (garage, ran) = run(rt, alloc, garage, units, turns, reads, &Open);
     match ran {
-        Ok(ran) => Ok((garage, ran)),
+        Ok(ran) => {
+            // (whoever asks this learns that the garage is lawful)
+            let _ = garage.events();
+            Ok((garage, ran))
+        }
         Err(_) => Err(Fault::Memory),
     }
 }
@@ -183,21 +199,21 @@ fn write_run<W: Write>(
     ended: &[Ended],
     report: bool,
 ) -> Result<(), Fault>
-    ensures { IfErr result (λ fault. (fault ≡ Fault.Write) ⊎ (fault ≡ Fault.Memory)) }
+    ensures fault { IfErr result (λ fault. (fault ≡ Fault.Write) ⊎ (fault ≡ Fault.Memory)) }
+    ensures written { OnOk result (Appends (W.contents writer.old) (W.contents writer.new) (run_text garage.now ended.now report)) }
 {
-    let Ok(mut writer) = BufWriter::new(alloc, writer) else {
-        return Err(Fault::Memory);
-    };
-    write_ends(&mut writer, garage, ended)?;
+    write_ends(writer, garage, ended)?;
     if report {
-        write_reports(alloc, &mut writer, garage)?;
+        write_reports(alloc, writer, garage)?;
     }
-    flush(&mut writer)
+    flush(writer)
 }
 
 /// Writes a line for the end of each unit.
+#[tactic(auto, using(crate::proofs::Writing::all_ends, crate::proofs::Writing::nothing_yet))]
 fn write_ends<W: Write>(writer: &mut W, garage: &Garage, ended: &[Ended]) -> Result<(), Fault>
-    ensures { IfErr result (λ fault. fault ≡ Fault.Write) }
+    ensures fault { IfErr result (λ fault. fault ≡ Fault.Write) }
+    ensures written { OnOk result (Appends (W.contents writer.old) (W.contents writer.new) (ends_text garage.now 0 ended.now)) }
 {
     for (unit, end) in ended.iter().enumerate() {
         if write_end(writer, garage, unit, end).is_err() {
@@ -207,45 +223,72 @@ fn write_ends<W: Write>(writer: &mut W, garage: &Garage, ended: &[Ended]) -> Res
     Ok(())
 }
 
-fn write_end<W: Write>(
-    writer: &mut W,
-    garage: &Garage,
-    unit: usize,
-    end: &Ended,
-) -> io::Result<()> {
-    if let Some(reason) = end.refusal {
-        return writeln!(writer, "unit {unit} refused {} {reason}", reason.number());
+fn write_end<W: Write>(writer: &mut W, garage: &Garage, unit: usize, end: &Ended) -> io::Result<()>
+    ensures { OnOk result (Appends (W.contents writer.old) (W.contents writer.new) (unit_end_text garage.now unit end.now)) }
+{
+    write!(writer, "unit {unit} ")?;
+    match end.refusal {
+        Some(reason) => write_reason(writer, reason),
+        None => write_counts(writer, counts_of(garage, end.seat.unwrap_or(0))),
     }
+}
+
+fn write_reason<W: Write>(writer: &mut W, reason: EndReason) -> io::Result<()>
+    ensures { OnOk result (Appends (W.contents writer.old) (W.contents writer.new) (end_reason_text reason)) }
+{
+    let number = reason.number();
+    writeln!(writer, "refused {number} {reason}")
+}
+
+fn write_counts<W: Write>(writer: &mut W, counts: Tally) -> io::Result<()>
+    ensures { OnOk result (Appends (W.contents writer.old) (W.contents writer.new) (tally_text counts)) }
+{
     let Tally {
         joined,
         turned,
         left,
         events: _,
-    } = garage.tally(end.seat.unwrap_or(0));
-    writeln!(
-        writer,
-        "unit {unit} joined {joined} turned {turned} left {left}"
-    )
+    } = counts;
+    writeln!(writer, "joined {joined} turned {turned} left {left}")
 }
 
 /// Writes what each station knows, in their order.
+#[tactic(auto, using(crate::proofs::Writing::report_more, crate::proofs::Writing::nothing_yet))]
 fn write_reports<W: Write>(alloc: Global, writer: &mut W, garage: &Garage) -> Result<(), Fault>
-    ensures { IfErr result (λ fault. (fault ≡ Fault.Write) ⊎ (fault ≡ Fault.Memory)) }
+    ensures fault { IfErr result (λ fault. (fault ≡ Fault.Write) ⊎ (fault ≡ Fault.Memory)) }
+    ensures written { OnOk result (Appends (W.contents writer.old) (W.contents writer.new)
+        (reports_text garage.now (length garage.now.settings.stations))) }
 {
     for station in 0..garage.stations() {
-        let Ok(snapshot) = garage.snapshot_at(alloc, station) else {
-            return Err(Fault::Memory);
-        };
-        if report::write(&snapshot, writer).is_err() {
-            return Err(Fault::Write);
-        }
+        write_report(alloc, writer, garage, station)?;
     }
     Ok(())
 }
 
-/// Writes all that is still to be written.
+/// Writes what a station knows.
+fn write_report<W: Write>(
+    alloc: Global,
+    writer: &mut W,
+    garage: &Garage,
+    station: u32,
+) -> Result<(), Fault>
+    requires { station < length garage.now.settings.stations }
+    ensures fault { IfErr result (λ fault. (fault ≡ Fault.Write) ⊎ (fault ≡ Fault.Memory)) }
+    ensures written { OnOk result (Appends (W.contents writer.old) (W.contents writer.new) (report_at garage.now station)) }
+{
+    let Ok(snapshot) = garage.snapshot_at(alloc, station) else {
+        return Err(Fault::Memory);
+    };
+    match report::write(&snapshot, writer) {
+        Ok(()) => Ok(()),
+        Err(_) => Err(Fault::Write),
+    }
+}
+
+/// Has the writer write all that it holds.
 fn flush<W: Write>(writer: &mut W) -> Result<(), Fault>
-    ensures { IfErr result (λ fault. fault ≡ Fault.Write) }
+    ensures fault { IfErr result (λ fault. fault ≡ Fault.Write) }
+    ensures same { OnOk result (Keeps (W.contents writer.old) (W.contents writer.new)) }
 {
     match writer.flush() {
         Ok(()) => Ok(()),

@@ -2,7 +2,7 @@ ghost use Rattle.std.specs.Prelude.{◌≡◌, ◌≢◌, ◌≤◌, ◌↔◌, 
 ghost use Rattle.garage.specs.declared.error.GarageError.{GarageError as AnyError};
 ghost use Rattle.std.specs.List.{All};
 ghost use Rattle.garage.specs.Calls.{IsNoMemoryOrFull};
-ghost use Rattle.unit_threads.specs.Ends.{Agrees, AgreesAt, HaveOwnSeats, IsCounted, IsCutShort, IsMountRefusal, IsSeatless, IsStrangerAt, IsUnseated, IsWhole, StaySeatless};
+ghost use Rattle.unit_threads.specs.Ends.{counts_told, Agrees, AgreesAt, HaveOwnSeats, IsCounted, IsCutShort, IsMountRefusal, IsSeatless, IsStrangerAt, IsUnseated, IsWhole, StaySeatless};
 
 use crate::ended::{EndReason, Ended};
 use garage::{Garage, GarageError};
@@ -60,7 +60,7 @@ fn checked(garage: &Garage, turns: u32, end: Ended) -> Ended
             refusal: Some(unseated(end.refusal)),
         };
     };
-    let tally = garage.tally(seat);
+    let tally = counts_of(garage, seat);
     Ended {
         seat: Some(seat),
         events: tally.events,
@@ -76,9 +76,17 @@ fn stranger(garage: &Garage, turns: u32, seat: u32) -> Ended
 {
     Ended {
         seat: Some(seat),
-        events: garage.tally(seat).events,
+        events: counts_of(garage, seat).events,
         refusal: Some(EndReason::Garage(GarageError::Stranger)),
     }
+}
+
+/// The counts of a seat; none where no unit got that number.
+#[tactic(auto, using(crate::proofs::Comparing::counted_so))]
+pub(crate) fn counts_of(garage: &Garage, seat: u32) -> Tally
+    ensures { result ≡ counts_told seat garage.now }
+{
+    garage.tally(seat)
 }
 
 /// Why a unit never joined.

@@ -1,6 +1,7 @@
 ghost use Rattle.std.specs.Prelude.{◌≡◌};
 
 use garage::GarageError;
+use script_answer::Refusal;
 use std::fmt;
 
 /// Why a unit's thread ended early. `Display` writes the refusal's name.
@@ -13,7 +14,7 @@ pub enum EndReason {
 }
 
 impl EndReason {
-    ghost use Rattle.unit_threads.specs.Ends.{number_of_end};
+    ghost use Rattle.unit_threads.specs.Ends.{number_of_end, word_of_end};
 
     /// The refusal's number.
     pub fn number(self) -> u8
@@ -24,14 +25,27 @@ impl EndReason {
             EndReason::NoThread => 27,
         }
     }
+
+    /// The refusal's name.
+    fn word(self) -> &'static str
+        ensures { result.now ≡ word_of_end self }
+    {
+        match self {
+            EndReason::Garage(error) => Refusal::Garage(error).word(),
+            EndReason::NoThread => "NoThread",
+        }
+    }
 }
 
 impl fmt::Display for EndReason {
+    ghost use Rattle.std.specs.Prelude.{Some};
+    ghost use Rattle.unit_threads.specs.Ends.{word_of_end};
+
+    ghost output = { λ r. Some (word_of_end r) };
+
     fn fmt<W: fmt::Write>(&self, f: &mut fmt::Formatter<W>) -> fmt::Result {
-        match self {
-            EndReason::Garage(error) => write!(f, "{error}"),
-            EndReason::NoThread => write!(f, "NoThread"),
-        }
+        let word = self.word();
+        write!(f, "{word}")
     }
 }
 

@@ -9,6 +9,7 @@ mod command;
 mod compare;
 mod ended;
 mod running;
+mod shared;
 mod turn;
 
 pub use command::threads;

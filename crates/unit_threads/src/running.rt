@@ -2,12 +2,14 @@ ghost use Rattle.std.specs.Prelude.{◌≡◌, ◌+◌, ◌≤◌, min, Some, No
 ghost use Rattle.std.specs.List.{All};
 ghost use Rattle.garage.specs.Calls.{IsNoMemoryOrFull};
 ghost use Rattle.unit_threads.specs.Ends.{Agrees, AreSeatlessFrom, HaveOwnSeats, IsSeatless};
+ghost use Rattle.unit_threads.specs.Going.{GoesOnFrom};
 
 use crate::compare::compared_ends;
 use crate::ended::{EndReason, Ended};
-use crate::turn::{one_read, one_turn};
+use crate::shared::{SharedGarage, Start};
 use garage::{Garage, GarageError};
 use std::alloc::{AllocError, Global};
+use std::marker::Brand;
 use std::sync::{Mutex, Wait};
 use std::thread;
 use std::thread::{JoinHandle, Scope, Threads};
@@ -39,8 +41,8 @@ pub struct Ran {
 ///
 /// The first 64 units have a thread. For each further one no seat may be left: it is let go without a thread (`TooManySeats`).
 ///
-/// The garage comes back as the threads left it, each seat's counts agree with what is told of it, and no seat is told of
-/// twice. A unit whose thread cannot be started is let go (`NoThread`); a lock of this toolchain is never poisoned, since a
+/// The garage comes back as the threads left it, gone on from the one that was handed in. Each seat's counts agree with what is
+/// told of it, and no seat is told of twice. A unit whose thread cannot be started is let go (`NoThread`); a lock of this toolchain is never poisoned, since a
 /// panic ends the process. It returns only if each unit's `think` and the gate do.
 ///
 /// # Errors
@@ -55,6 +57,29 @@ pub fn run<R: Threads + Wait + Sync, G: Gate>(
     gate: &G,
 ) -> (Garage, Result<Ran, AllocError>)
     ensures none { IfErr result.1 (λ _. result.0 ≡ garage) }
+    ensures goes_on { GoesOnFrom garage result.0 }
+    ensures all { IfOk result.1 (λ r. vec_len r.ended ≡ vec_len units) }
+    ensures agree { IfOk result.1 (λ r. All (Agrees turns result.0) r.ended.items) }
+    ensures apart { IfOk result.1 (λ r. HaveOwnSeats r.ended.items) }
+    ensures seatless { IfOk result.1 (λ r. AreSeatlessFrom MOST_UNITS r.ended.items) }
+    ensures station { IfOk result.1 (λ r. IfSome r.station IsNoMemoryOrFull) }
+{
+    run_from::<Brand, R, G>(rt, alloc, garage, units, turns, reads, gate)
+}
+
+/// The run, from the garage for which `S` stands.
+fn run_from<S: Start, R: Threads + Wait + Sync, G: Gate>(
+    rt: &R,
+    alloc: Global,
+    garage: Garage,
+    units: Vec<(Box<dyn Unit>, u8)>,
+    turns: u32,
+    reads: u32,
+    gate: &G,
+) -> (Garage, Result<Ran, AllocError>)
+    requires { garage ≡ S.start }
+    ensures none { IfErr result.1 (λ _. result.0 ≡ garage) }
+    ensures goes_on { GoesOnFrom S.start result.0 }
     ensures all { IfOk result.1 (λ r. vec_len r.ended ≡ vec_len units) }
     ensures agree { IfOk result.1 (λ r. All (Agrees turns result.0) r.ended.items) }
     ensures apart { IfOk result.1 (λ r. HaveOwnSeats r.ended.items) }
@@ -69,9 +94,35 @@ pub fn run<R: Threads + Wait + Sync, G: Gate>(
         Ok(threads) => threads,
         Err(error) => return (garage, Err(error)),
     };
-    let shared = Mutex::new(garage);
-    let lock = &shared;
-    let (ended, station) = thread::scope(
+    let shared: Mutex<SharedGarage<S>> = Mutex::new(SharedGarage::new(garage));
+    let (ended, station) = run_shared(
+        rt, alloc, &shared, gate, units, turns, reads, threads, ended,
+    );
+    let garage = shared.into_inner().into_garage();
+    let ended = compared_ends(&garage, turns, ended);
+    (garage, Ok(Ran { ended, station }))
+}
+
+/// The run, in a garage that is shared. It returns when each thread has ended.
+fn run_shared<'e, S: Start, R: Threads + Wait + Sync, G: Gate>(
+    rt: &'e R,
+    alloc: Global,
+    shared: &'e Mutex<SharedGarage<S>>,
+    gate: &'e G,
+    units: Vec<(Box<dyn Unit>, u8)>,
+    turns: u32,
+    reads: u32,
+    threads: Vec<Started>,
+    ended: Vec<Ended>,
+) -> (Vec<Ended>, Option<GarageError>)
+    requires none { (vec_len ended ≡ 0) × (vec_len threads ≡ 0) }
+    requires room { vec_len units ≤ vec_capacity ended }
+    requires seats { min (vec_len units) MOST_UNITS ≤ vec_capacity threads }
+    ensures len { vec_len result.0 ≡ vec_len units }
+    ensures station { IfSome result.1 IsNoMemoryOrFull }
+    ensures seatless { AreSeatlessFrom MOST_UNITS result.0.items }
+{
+    thread::scope(
         thread::scope_env(),
         rt,
         move |scope| -> (Vec<Ended>, Option<GarageError>)
@@ -81,22 +132,19 @@ pub fn run<R: Threads + Wait + Sync, G: Gate>(
             ensures { (vec_len result.0 ≡ vec_len units) × IfSome result.1 IsNoMemoryOrFull × AreSeatlessFrom MOST_UNITS result.0.items }
         {
             run_all(
-                scope, rt, alloc, lock, gate, units, turns, reads, threads, ended,
+                scope, rt, alloc, shared, gate, units, turns, reads, threads, ended,
             )
         },
-    );
-    let garage = shared.into_inner();
-    let ended = compared_ends(&garage, turns, ended);
-    (garage, Ok(Ran { ended, station }))
+    )
 }
 
 /// Has each unit that can find a seat run in a thread of its own, and does the caller's part meanwhile. The ends come in the
 /// order of the units.
-fn run_all<'s, 'e, R: Threads + Wait + Sync, G: Gate>(
+fn run_all<'s, 'e, S: Start, R: Threads + Wait + Sync, G: Gate>(
     scope: &'s Scope<'s, &'e ()>,
     rt: &'e R,
     alloc: Global,
-    shared: &'e Mutex<Garage>,
+    shared: &'e Mutex<SharedGarage<S>>,
     gate: &'e G,
     mut units: Vec<(Box<dyn Unit>, u8)>,
     turns: u32,
@@ -120,11 +168,11 @@ fn run_all<'s, 'e, R: Threads + Wait + Sync, G: Gate>(
 }
 
 /// Starts the thread of each unit, the last one first.
-fn start_each<'s, 'e, R: Threads + Wait + Sync, G: Gate>(
+fn start_each<'s, 'e, S: Start, R: Threads + Wait + Sync, G: Gate>(
     scope: &'s Scope<'s, &'e ()>,
     rt: &'e R,
     alloc: Global,
-    shared: &'e Mutex<Garage>,
+    shared: &'e Mutex<SharedGarage<S>>,
     gate: &'e G,
     mut units: Vec<(Box<dyn Unit>, u8)>,
     turns: u32,
@@ -171,10 +219,10 @@ fn with_seatless(seatless: usize, mut ended: Vec<Ended>) -> Vec<Ended>
 }
 
 /// All that a unit does: it joins, has its turns and leaves.
-fn drive<R: Wait, G: Gate>(
+fn drive<S: Start, R: Wait, G: Gate>(
     rt: &R,
     alloc: Global,
-    shared: &Mutex<Garage>,
+    shared: &Mutex<SharedGarage<S>>,
     gate: &G,
     unit: Box<dyn Unit>,
     want: u8,
@@ -193,14 +241,14 @@ fn drive<R: Wait, G: Gate>(
     for turn in 0..turns {
         gate.before_turn(rt, number, turn);
         parked.think();
-        let turned = one_turn(alloc, &mut *shared.lock(rt), parked);
+        let turned = shared.lock(rt).turn(alloc, parked);
         parked = match turned {
             Ok(parked) => parked,
             Err(error) => return refused_at(seat, error),
         };
     }
     let events = parked.events().saturating_add(1);
-    let left = Garage::dismiss(&mut *shared.lock(rt), parked);
+    let left = shared.lock(rt).dismiss(parked);
     match left {
         Ok(()) => Ended {
             seat: Some(seat),
@@ -239,16 +287,16 @@ fn refused_at(seat: u32, error: GarageError) -> Ended {
 }
 
 /// The stations' readings. The first refusal ends them.
-fn read_often<R: Wait>(
+fn read_often<S: Start, R: Wait>(
     rt: &R,
     alloc: Global,
-    shared: &Mutex<Garage>,
+    shared: &Mutex<SharedGarage<S>>,
     reads: u32,
 ) -> Option<GarageError>
     ensures { IfSome result IsNoMemoryOrFull }
 {
     for _ in 0..reads {
-        let read = one_read(alloc, &mut *shared.lock(rt));
+        let read = shared.lock(rt).read(alloc);
         if let Err(error) = read {
             return Some(error);
         }

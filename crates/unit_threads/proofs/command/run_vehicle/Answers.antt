@@ -14,4 +14,4 @@ unless_of_input P (Ok x) h = tt
 unless_of_input P (Err f) h = λ is. absurd (none_of_input f h is)
 
 pub returns-clause-unanswered : goal.returns-clause-unanswered
-returns-clause-unanswered g c = unless_of_input _ c.write_run.result c.write_run.ensures
+returns-clause-unanswered g c = unless_of_input _ c.write_run.result c.write_run.ensures.fault

@@ -1,5 +1,6 @@
-pub mod Crossing
 mod FaultLemmas
 mod OneMore
 mod OwnLemmas
+mod PlayingLemmas
 mod Waking
+pub mod Crossing

@@ -1,11 +1,12 @@
 -- What a frame of the bus is to a unit of a fleet.
-use Rattle.std.specs.Prelude.{ℕ, ◌≡◌, ◌⊎◌, ◌+◌, ◌-◌, ◌^◌, ◌<◌, true, false, List, [], length, None, get_or, min}
+use Rattle.std.specs.Prelude.{ℕ, ◌≡◌, ◌⊎◌, ◌+◌, ◌-◌, ◌^◌, ◌<◌, true, false, List, [], length, None, IfSome, get_or, min}
 use Rattle.can_frame.specs.Fields.{source_of}
 use Rattle.can_frame.specs.FrameValue.{FrameValue}
 use Rattle.address_claim.specs.Frames.{claim_source}
 use Rattle.fault_memory.specs.Memory.{MemoryValue}
 use Rattle.node_core.specs.declared.heard.Answer.{Answer}
 use Rattle.live_unit.specs.Steps.{HasHeardFrame, standing}
+use Rattle.live_lines.specs.Playing.{BusCall, Echoes, Hears, Misses, Steps}
 use Rattle.live_lines.specs.declared.member.Member.{Member}
 
 -- all that it hears is for its node: it does not watch its address, has no groups of its own to answer, and no session of one is open
@@ -57,3 +58,12 @@ AreFaultless {X} {P} members = (place : ℕ) (d : Member X P) → place < length
 -- one of them sends it, from the address that it holds
 abbrev pub IsFromOne : {X : Type 0} {P : X → Type 0} → FrameValue → List (Member X P) → Type 0
 IsFromOne {X} {P} f members = (place : ℕ) × (place < length members) × ((d : Member X P) → IsFromIts f (get_or members place d))
+
+-- ---- a call of all of them
+
+-- each was told of a frame that was read, and of one that was written, with some memory of its unit; a frame that goes is from one of them
+abbrev pub FleetDoes : {X : Type 0} {P : X → Type 0} → BusCall → List (Member X P) → List (Member X P) → Type 0
+FleetDoes {X} {P} (Hears h) old new = (memory : Member X P → MemoryValue) × HaveBeenTold h.frame old new memory
+FleetDoes {X} {P} (Echoes h) old new = (memory : Member X P → MemoryValue) × HaveBeenTold h.frame old new memory
+FleetDoes (Misses count) old new = new ≡ old
+FleetDoes (Steps f) old new = AreFaultless old → IfSome f (λ f. IsFromOne f new)

@@ -1,4 +1,8 @@
 //! The lines of a bus, of whose frames those who take part in it hear.
+ghost use Rattle.std.specs.Prelude.{◌≡◌, ◌≢◌, ℕ, IfOk, IsTrue, MatchOption, List, None, Some, OnOk, option_map, string_bytes, ◌↔◌, true};
+ghost use Rattle.can_frame.specs.FrameValue.{FrameValue};
+ghost use Rattle.candump_line.specs.Logged.{frame_read};
+ghost use Rattle.live_lines.specs.Reading.{line_behind, IsReadSo};
 
 use crate::on_bus::OnBus;
 use can_frame::Frame;
@@ -75,15 +79,25 @@ impl Ear {
     }
 
     /// Reads a line. A bad one is told on `errors`.
-    pub(crate) fn read<E: Write>(
-        &mut self,
-        line: &[u8],
-        errors: &mut E,
-    ) -> Result<Heard, LogFault> {
+    pub(crate) fn read<E: Write>(&mut self, line: &[u8], errors: &mut E) -> Result<Heard, LogFault>
+        ensures read { IfOk result (λ heard. IsReadSo (string_bytes self.old.bus) self.old.number line.now heard) }
+        ensures bus { string_bytes self.new.bus ≡ string_bytes self.old.bus }
+        ensures number { self.new.number ≡ line_behind self.old.number }
+    {
         self.number = self.number.saturating_add(1);
         let said = read_line(line);
         let is_bad = self.notices.take(errors, self.number, line, &said)?;
-        let (frame, missed) = match said {
+        Ok(self.heard(&said, is_bad))
+    }
+
+    /// What the latest line is to them, which says this and is bad or not.
+    fn heard(&self, said: &Line<'_>, is_bad: bool) -> Heard
+        ensures own { (time : ℕ) (f : FrameValue) → frame_read said.now ≡ Some (time, string_bytes self.now.bus, f)
+            → (result.missed ≡ 0) × (result.frame ≡ Some (record { frame = f; line = self.now.number; time = Some time })) }
+        ensures other { (time : ℕ) (named : List ℕ) (f : FrameValue) → frame_read said.now ≡ Some (time, named, f)
+            → named ≢ string_bytes self.now.bus → (result.missed ≡ 0) × (result.frame ≡ None) }
+    {
+        let (frame, missed) = match *said {
             Line::Frame { time, bus, frame } if self.is_of_bus(bus) => (
                 Some(HeardFrame {
                     frame,
@@ -97,15 +111,17 @@ impl Ear {
             Line::Bad(_) => (None, 1),
             _ => (None, 0),
         };
-        Ok(Heard {
+        Heard {
             frame,
             missed,
             is_bad,
-        })
+        }
     }
 
     /// A frame that was written behind the latest line.
-    pub(crate) fn written(&self, frame: Frame, time: Option<Time>) -> HeardFrame {
+    pub(crate) fn written(&self, frame: Frame, time: Option<Time>) -> HeardFrame
+        ensures { result ≡ record { frame = frame; line = self.now.number; time = time } }
+    {
         HeardFrame {
             frame,
             line: self.number,
@@ -114,7 +130,9 @@ impl Ear {
     }
 
     /// The bus whose lines are read.
-    pub(crate) fn bus(&self) -> &str {
+    pub(crate) fn bus(&self) -> &str
+        ensures { result.now ≡ string_bytes self.now.bus }
+    {
         self.bus.as_str()
     }
 
@@ -123,7 +141,9 @@ impl Ear {
         self.notices.ended(errors, end)
     }
 
-    fn is_of_bus(&self, bus: Option<&str>) -> bool {
+    fn is_of_bus(&self, bus: Option<&str>) -> bool
+        ensures { MatchOption (option_map (λ b. b.now) bus.entry) (result ≡ true) (λ named. IsTrue result ↔ (named ≡ string_bytes self.now.bus)) }
+    {
         match bus {
             Some(bus) => bus == self.bus.as_str(),
             None => true,

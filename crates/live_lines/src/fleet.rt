@@ -100,7 +100,9 @@ impl Fleet {
     }
 
     /// When to look again, at this time or later.
-    pub fn next(&self, now: u64) -> u64 {
+    pub fn next(&self, now: u64) -> u64
+        ensures { now < self.now.idle_until → result ≡ self.now.idle_until }
+    {
         if now < self.idle_until {
             return self.idle_until;
         }

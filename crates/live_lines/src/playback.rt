@@ -1,6 +1,13 @@
 //! Who takes part in a bus by the times of the lines that are heard: nothing waits, and what is written is the same each time.
+ghost use Rattle.std.specs.Prelude.{◌≡◌, ℕ, ◌≤◌, List, Option, Some, IfOk, IfSome, OnOk, is_some, string_bytes};
+ghost use Rattle.std.specs.Io.KnownBytes.{Appends};
+ghost use Rattle.std.specs.Option.{unwrap_or};
+ghost use Rattle.can_frame.specs.FrameValue.{FrameValue};
+ghost use Rattle.live_lines.specs.Playing.{begins_anew as is_anew, heard_at, went_text, IsAsking, PlaysHeard, PlaysLine, PlaysMissed, PlaysOut, PlaysTo, StandsAt, clock_before};
+ghost use Rattle.live_lines.specs.Reading.{line_behind, IsReadSo};
+ghost use Rattle.live_lines.specs.declared.ear.Heard.{Heard as AnyHeard};
 
-use crate::ear::{Ear, Heard};
+use crate::ear::{Ear, HeardFrame};
 use crate::on_bus::OnBus;
 use can_frame::Frame;
 use candump_line::{Time, write_line};
@@ -51,28 +58,71 @@ impl<B: OnBus> Playback<B> {
         errors: &mut E,
     ) -> Result<bool, LogFault>
         requires { Unit {0} }
+        ensures played { OnOk result ((heard : AnyHeard) × (text : List ℕ)
+            × IsReadSo (string_bytes self.old.ear.bus) self.old.ear.number line.now heard
+            × PlaysLine (record { does = B.OnBus.does; looks = B.OnBus.looks }) (string_bytes self.old.ear.bus) self.new.ear.number
+            self.old.clock self.old.is_timed heard.missed heard.frame self.old.on_bus self.new.on_bus text
+            × Appends (W.contents writer.old) (W.contents writer.new) text
+            × StandsAt heard.frame self.old.clock self.old.is_timed self.new.clock self.new.is_timed) }
+        ensures bus { OnOk result (string_bytes self.new.ear.bus ≡ string_bytes self.old.ear.bus) }
+        ensures number { OnOk result (self.new.ear.number ≡ line_behind self.old.ear.number) }
     {
-        let Heard {
-            frame,
-            missed,
-            is_bad,
-        } = self.ear.read(line, errors)?;
+        let heard = self.ear.read(line, errors)?;
+        self.tell_missed(alloc, heard.missed, writer, errors)?;
+        if let Some(frame) = &heard.frame {
+            self.play(alloc, frame, writer, errors)?;
+        }
+        Ok(heard.is_bad)
+    }
+
+    /// Tells of frames that were not read, where there are any, behind what is due at the time of the last line.
+    fn tell_missed<W: Write, E: Write>(
+        &mut self,
+        alloc: Global,
+        missed: u32,
+        writer: &mut W,
+        errors: &mut E,
+    ) -> Result<(), LogFault>
+        requires { Unit {0} }
+        ensures told { OnOk result ((text : List ℕ)
+            × PlaysMissed (record { does = B.OnBus.does; looks = B.OnBus.looks }) (string_bytes self.old.ear.bus) self.old.ear.number
+            self.old.clock missed self.old.on_bus self.new.on_bus text
+            × Appends (W.contents writer.old) (W.contents writer.new) text) }
+        ensures same { OnOk result ((self.new.ear ≡ self.old.ear) × (self.new.clock ≡ self.old.clock)
+            × (self.new.is_timed ≡ self.old.is_timed)) }
+    {
         if missed > 0 {
             self.finish(alloc, writer, errors)?;
             let now = self.clock.unwrap_or(0);
             self.on_bus.miss(alloc, missed, now, errors);
         }
-        let Some(heard) = frame else {
-            return Ok(is_bad);
-        };
+        Ok(())
+    }
+
+    /// Has a frame heard, behind what is due by its time.
+    fn play<W: Write, E: Write>(
+        &mut self,
+        alloc: Global,
+        heard: &HeardFrame,
+        writer: &mut W,
+        errors: &mut E,
+    ) -> Result<(), LogFault>
+        requires { Unit {0} }
+        ensures played { OnOk result ((text : List ℕ)
+            × PlaysHeard (record { does = B.OnBus.does; looks = B.OnBus.looks }) (string_bytes self.old.ear.bus) self.old.ear.number
+            (clock_before self.old.clock self.old.is_timed heard.now.time) heard.now self.old.on_bus self.new.on_bus text
+            × Appends (W.contents writer.old) (W.contents writer.new) text) }
+        ensures stands { OnOk result (StandsAt (Some heard.now) self.old.clock self.old.is_timed self.new.clock self.new.is_timed) }
+        ensures same { self.new.ear ≡ self.old.ear }
+    {
         if self.begins_anew(heard.time) {
             self.clock = None;
         }
         self.is_timed = self.is_timed || heard.time.is_some();
         let now = self.time_of(heard.time);
         self.write_until(alloc, now, writer, errors)?;
-        self.on_bus.hear(alloc, &heard, now, errors);
-        Ok(is_bad)
+        self.on_bus.hear(alloc, heard, now, errors);
+        Ok(())
     }
 
     /// Whether the run ends now, though there may be more lines.
@@ -91,6 +141,12 @@ impl<B: OnBus> Playback<B> {
         errors: &mut E,
     ) -> Result<(), LogFault>
         requires { Unit {0} }
+        ensures played { OnOk result ((text : List ℕ)
+            × PlaysOut (record { does = B.OnBus.does; looks = B.OnBus.looks }) (string_bytes self.old.ear.bus) self.old.ear.number
+            self.old.clock self.old.on_bus self.new.on_bus text
+            × Appends (W.contents writer.old) (W.contents writer.new) text) }
+        ensures same { OnOk result ((self.new.ear ≡ self.old.ear) × (self.new.clock ≡ self.old.clock)
+            × (self.new.is_timed ≡ self.old.is_timed)) }
     {
         match self.clock {
             Some(now) => self.write_until(alloc, now, writer, errors),
@@ -118,7 +174,9 @@ impl<B: OnBus> Playback<B> {
     }
 
     /// Whether the clock begins anew at a line with this time.
-    fn begins_anew(&self, time: Option<Time>) -> bool {
+    fn begins_anew(&self, time: Option<Time>) -> bool
+        ensures { result ≡ is_anew self.now.clock self.now.is_timed time }
+    {
         match (time, self.clock) {
             (Some(time), Some(before)) => {
                 !self.is_timed || time.micros().saturating_sub(before) > LONGEST_PAUSE
@@ -128,7 +186,10 @@ impl<B: OnBus> Playback<B> {
     }
 
     /// The time at which a line is heard.
-    fn time_of(&self, time: Option<Time>) -> u64 {
+    fn time_of(&self, time: Option<Time>) -> u64
+        ensures at { result ≡ heard_at self.now.clock time }
+        ensures late { IfSome self.now.clock (λ before. before ≤ result) }
+    {
         let before = self.clock.unwrap_or(0);
         match time {
             Some(time) => time.micros().max(before),
@@ -144,32 +205,63 @@ impl<B: OnBus> Playback<B> {
         writer: &mut W,
         errors: &mut E,
     ) -> Result<(), LogFault>
-        requires { Unit {0} }
+        requires unit { Unit {0} }
+        requires late { IfSome self.old.clock (λ before. before ≤ until) }
+        ensures played { OnOk result ((text : List ℕ)
+            × PlaysTo (record { does = B.OnBus.does; looks = B.OnBus.looks }) (string_bytes self.old.ear.bus) self.old.ear.number
+            (unwrap_or self.old.clock until) until self.old.on_bus self.new.on_bus text
+            × Appends (W.contents writer.old) (W.contents writer.new) text) }
+        ensures clock { OnOk result (self.new.clock ≡ Some until) }
+        ensures same { (self.new.ear ≡ self.old.ear) × (self.new.is_timed ≡ self.old.is_timed) }
     {
         let mut now = self.clock.unwrap_or(until);
         for _ in 0..u64::MAX {
-            if let Some(frame) = self.on_bus.step(alloc, now, errors) {
-                self.write(now, &frame, writer)?;
-                let written = self.ear.written(frame, Time::from_micros(now));
-                self.on_bus.echo(alloc, &written, now, errors);
+            if self.go(alloc, now, writer, errors)? {
                 continue;
             }
             let next = self.on_bus.next(now).max(now.saturating_add(1));
             if next > until {
-                break;
+                self.clock = Some(until);
+                return Ok(());
             }
             now = next;
         }
-        self.clock = Some(until);
-        Ok(())
+        Err(LogFault::Write)
     }
 
-    fn write<W: Write>(&self, now: u64, frame: &Frame, writer: &mut W) -> Result<(), LogFault> {
+    /// Writes the frame that goes at a time, if one does, and tells of it. Tells whether one went.
+    fn go<W: Write, E: Write>(
+        &mut self,
+        alloc: Global,
+        now: u64,
+        writer: &mut W,
+        errors: &mut E,
+    ) -> Result<bool, LogFault>
+        requires { Unit {0} }
+        ensures went { IfOk result (λ went. (frame : Option FrameValue) × (is_some frame ≡ went)
+            × IsAsking B.OnBus.does self.old.ear.number (record { at = now; frame = frame }) self.old.on_bus self.new.on_bus
+            × Appends (W.contents writer.old) (W.contents writer.new) (went_text (string_bytes self.old.ear.bus) now frame)) }
+        ensures same { (self.new.ear ≡ self.old.ear) × (self.new.clock ≡ self.old.clock) × (self.new.is_timed ≡ self.old.is_timed) }
+    {
+        let Some(frame) = self.on_bus.step(alloc, now, errors) else {
+            return Ok(false);
+        };
+        let time = self.write(now, &frame, writer)?;
+        let written = self.ear.written(frame, Some(time));
+        self.on_bus.echo(alloc, &written, now, errors);
+        Ok(true)
+    }
+
+    /// Writes a frame at a time.
+    fn write<W: Write>(&self, now: u64, frame: &Frame, writer: &mut W) -> Result<Time, LogFault>
+        ensures { IfOk result (λ time. (time ≡ now)
+            × Appends (W.contents writer.old) (W.contents writer.new) (went_text (string_bytes self.now.ear.bus) now (Some frame.now))) }
+    {
         let Some(time) = Time::from_micros(now) else {
             return Err(LogFault::Write);
         };
         match write_line(writer, time, self.ear.bus(), frame) {
-            Ok(()) => Ok(()),
+            Ok(()) => Ok(time),
             Err(error) => Err(LogFault::of_write(error)),
         }
     }

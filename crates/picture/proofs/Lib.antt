@@ -5,3 +5,4 @@ pub mod Appearing
 pub mod KeepingCodes
 pub mod Going
 pub mod Ranging
+pub mod Placing

@@ -1,9 +1,10 @@
 -- What messages showed at any time: how often something came, and from when to when it was shown. Lists of messages have the newest first.
-use Rattle.std.specs.Prelude.{◌≡◌, ℕ, ◌+◌, ◌-◌, ◌^◌, ◌<◌, ◌≤◌, min, Bool, true, false, not, ◌&&◌, ◌==◌, if◌then◌else◌, Option, None, All, List, [], ◌∷◌, ◌++◌, length, map}
+use Rattle.std.specs.Prelude.{◌≡◌, ℕ, ◌+◌, ◌-◌, ◌^◌, ◌<◌, ◌≤◌, min, Bool, true, false, not, ◌&&◌, if◌then◌else◌, Option, None, All, List, [], ◌∷◌, ◌++◌, length, map}
 use Rattle.std.specs.List.{list_any}
 use Rattle.trouble_code.specs.Code.{Code, same_fault}
-use Rattle.trouble_code.specs.LampBytes.{LampsValue, two_bits_of}
+use Rattle.trouble_code.specs.LampBytes.{LampsValue}
 use Rattle.trouble_code.specs.declared.lamps.LampName.{LampName}
+use Rattle.picture.specs.Severities.{is_lit}
 use Rattle.picture.specs.declared.appearance.Appearance.{Appearance}
 use Rattle.trouble_code.specs.declared.lamps.LampName.TheVariants.{Malfunction, RedStop, Amber, Protect}
 use Rattle.picture.specs.declared.ever.Ever.{Ever}
@@ -56,9 +57,9 @@ pub record ToldMessage : Type 0 where
   pub codes : List Code
   pub time : Option ℕ
 
--- it shows a lamp where that is on (J1939-73, 5.7.1), and a code where it lists one of the same SPN and FMI
+-- it shows a lamp where that is on, and a code where it lists one of the same SPN and FMI
 abbrev pub with_lamp : LampName → ToldMessage → Showing
-with_lamp name m = record { shows = two_bits_of name m.lamps.lamps == 1; time = m.time }
+with_lamp name m = record { shows = is_lit name m.lamps; time = m.time }
 
 abbrev pub with_code : Code → ToldMessage → Showing
 with_code code m = record { shows = list_any (same_fault code) m.codes; time = m.time }

@@ -1,5 +1,11 @@
+pub mod Severities
 pub mod Spans
+pub mod Briefs
 pub mod Tracks
 pub mod Histories
+pub mod Lanes
+pub mod Pictures
 pub mod Ever
+pub mod Units
+pub mod EverInLogs
 pub mod ValuesTold

@@ -2,19 +2,10 @@
 use Rattle.std.specs.Prelude.{◌≡◌, ℕ, ◌+◌, ◌-◌, ◌^◌, min, max, List, [], ◌∷◌, ◌++◌, length}
 use Rattle.picture.specs.declared.severity.Severity.{Severity}
 use Rattle.picture.specs.declared.severity.Severity.TheVariants as bad
+use Rattle.picture.specs.Severities.{rank}
 use Rattle.picture.specs.declared.span.Shows.{Shows}
 use Rattle.picture.specs.declared.span.Shows.TheVariants as show
 use Rattle.picture.specs.declared.span.Span.{Span}
-
--- from the least bad on
-abbrev pub rank : Severity → ℕ
-rank bad.Fine = 0
-rank bad.Partly = 1
-rank bad.Codes = 2
-rank bad.Protect = 3
-rank bad.Malfunction = 4
-rank bad.Amber = 5
-rank bad.Red = 6
 
 abbrev pub severity_of : Shows → Severity
 severity_of (show.Address a) = bad.Fine

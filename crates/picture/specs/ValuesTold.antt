@@ -1,5 +1,5 @@
 -- The values that a signal had, newest first.
-use Rattle.std.specs.Prelude.{◌≡◌, ℕ, ◌-◌, ◌^◌, ◌≤ℤ◌, min, All, List, [], ◌∷◌, length}
+use Rattle.std.specs.Prelude.{◌≡◌, ◌-◌, ◌^◌, ◌≤ℤ◌, min, All, List, ◌∷◌, length}
 use Rattle.std.specs.List.{Contains}
 use Rattle.picture.specs.declared.value_range.ToldValue.{ToldValue}
 use Rattle.picture.specs.declared.value_range.ValueRange.{ValueRange}

@@ -3,6 +3,8 @@ ghost use Rattle.std.specs.List.{list_any};
 ghost use Rattle.trouble_code.specs.Code.{same_fault};
 ghost use Rattle.trouble_code.specs.LampBytes.{LampsValue};
 ghost use Rattle.picture.specs.Ever.{CodesAppear, GoesOn, GoesOnAgain, IsOneMore, KeepsCode, KeepsCodes, ListsKept, TellsEver, ToldMessage, is_kept, told_at};
+ghost use Rattle.picture.specs.EverInLogs.{worst_came};
+ghost use Rattle.picture.specs.Severities.{rank};
 ghost use Rattle.picture.specs.declared.ever.EverCode.{EverCode as AnEverCode};
 
 use crate::appearance::Appearance;
@@ -14,14 +16,6 @@ use trouble_code::{Dtc, LampName, Lamps};
 
 /// How many codes are kept of a unit and kind, at most.
 pub const EVER_CODES: usize = 64;
-
-/// The lamps from the worst on.
-const FROM_WORST: [LampName; 4] = [
-    LampName::RedStop,
-    LampName::Amber,
-    LampName::Malfunction,
-    LampName::Protect,
-];
 
 /// A code that was listed at any time, by its SPN and FMI, and when.
 #[derive(Clone, Copy, Debug)]
@@ -61,24 +55,23 @@ impl Ever {
     }
 
     /// When a message of the kind was last heard, where its line has a time.
-    pub fn last_heard(&self) -> Option<Time> {
+    pub fn last_heard(&self) -> Option<Time>
+        ensures { result ≡ self.now.last_heard }
+    {
         self.last_heard
     }
 
     /// The worst that any message told.
-    pub fn worst(&self) -> Severity {
-        match self.worst_lamp() {
-            Some(LampName::RedStop) => Severity::Red,
-            Some(LampName::Amber) => Severity::Amber,
-            Some(LampName::Malfunction) => Severity::Malfunction,
-            Some(LampName::Protect) => Severity::Protect,
-            None if self.codes.is_empty() => Severity::Fine,
-            None => Severity::Codes,
-        }
+    pub fn worst(&self) -> Severity
+        ensures { rank result ≡ worst_came self.now }
+    {
+        self.lamps.worst(self.codes.len() > 0)
     }
 
     /// How bad it is what the newest message told, as far as it was read.
-    pub fn newest(&self) -> Severity {
+    pub fn newest(&self) -> Severity
+        ensures { result ≡ self.now.newest }
+    {
         self.newest
     }
 
@@ -89,12 +82,13 @@ impl Ever {
 
     /// The worst lamp that was on at any time: red stop, amber warning, malfunction, protect.
     pub fn worst_lamp(&self) -> Option<LampName> {
-        for name in FROM_WORST {
-            if self.lamp(name).times > 0 {
-                return Some(name);
-            }
+        match self.worst() {
+            Severity::Red => Some(LampName::RedStop),
+            Severity::Amber => Some(LampName::Amber),
+            Severity::Malfunction => Some(LampName::Malfunction),
+            Severity::Protect => Some(LampName::Protect),
+            _ => None,
         }
-        None
     }
 
     /// The codes that were listed at any time, in the order in which they were first; of very many the first `EVER_CODES`.

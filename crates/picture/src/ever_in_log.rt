@@ -1,3 +1,7 @@
+ghost use Rattle.std.specs.Prelude.{◌≡◌, ◌-◌, option_map};
+ghost use Rattle.picture.specs.EverInLogs.{active_of, silence_in, silent_from, worst_in};
+ghost use Rattle.picture.specs.Severities.{rank};
+
 use crate::ever::{EVER_CODES, Ever, EverCode};
 use crate::severity::Severity;
 use crate::unit::DrawnUnit;
@@ -84,8 +88,10 @@ impl EverInLog {
     }
 
     /// The worst that a unit told by DM1 at any time.
-    pub fn worst(&self, unit: &DrawnUnit) -> Severity {
-        match self.of(unit, Kind::Dm1) {
+    pub fn worst(&self, unit: &DrawnUnit) -> Severity
+        ensures { rank result ≡ worst_in self.now unit.now }
+    {
+        match self.active(unit) {
             Some(ever) => ever.worst(),
             None => Severity::Fine,
         }
@@ -120,13 +126,22 @@ impl EverInLog {
 
     /// How long before the end a unit's DM1 was last heard, in microseconds, where that is more than `SILENCE`, and it told of a lamp or a
     /// code. So it is not current.
-    pub fn silence(&self, unit: &DrawnUnit) -> Option<u64> {
-        let ever = self.of(unit, Kind::Dm1)?;
-        let passed = passed_from(ever.last_heard()?, self.end?);
-        if passed > SILENCE && ever.newest() != Severity::Fine {
-            Some(passed)
-        } else {
-            None
+    pub fn silence(&self, unit: &DrawnUnit) -> Option<u64>
+        ensures { result ≡ silence_in self.now unit.now }
+    {
+        match self.active(unit) {
+            Some(ever) => silence_of(ever.last_heard(), self.end, ever.newest()),
+            None => None,
+        }
+    }
+
+    /// What a unit told by DM1 at any time, as far as that is kept.
+    fn active(&self, unit: &DrawnUnit) -> Option<&Ever>
+        ensures { option_map (λ ever. ever.now) result ≡ active_of self.now unit.now }
+    {
+        match self.units.get(unit) {
+            Some(one) => Some(&one.dm1),
+            None => None,
         }
     }
 
@@ -189,7 +204,21 @@ impl EverInLog {
     }
 }
 
+/// How long a DM1 was not heard, where that is too long and it told of a fault.
+fn silence_of(last: Option<Time>, end: Option<Time>, newest: Severity) -> Option<u64>
+    ensures { result ≡ silent_from last end newest }
+{
+    let passed = passed_from(last?, end?);
+    if passed > SILENCE && newest.rank() > Severity::Fine.rank() {
+        Some(passed)
+    } else {
+        None
+    }
+}
+
 /// How many microseconds passed from one time to another.
-fn passed_from(from: Time, to: Time) -> u64 {
+fn passed_from(from: Time, to: Time) -> u64
+    ensures { result ≡ to - from }
+{
     to.micros().saturating_sub(from.micros())
 }

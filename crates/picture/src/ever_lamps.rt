@@ -1,8 +1,11 @@
-ghost use Rattle.std.specs.Prelude.{◌∷◌, [], List};
+ghost use Rattle.std.specs.Prelude.{◌≡◌, ◌∷◌, [], List};
 ghost use Rattle.picture.specs.Ever.{LampsAppear, ToldMessage, told_at};
+ghost use Rattle.picture.specs.EverInLogs.{may_have_come};
+ghost use Rattle.picture.specs.Severities.{rank, worst_shown};
 ghost use Rattle.trouble_code.specs.Code.{Code};
 
 use crate::appearance::Appearance;
+use crate::severity::Severity;
 use candump_line::Time;
 use trouble_code::{LampName, Lamps};
 
@@ -38,6 +41,25 @@ impl EverLamps {
             LampName::Amber => &self.amber,
             LampName::Malfunction => &self.malfunction,
             LampName::Protect => &self.protect,
+        }
+    }
+
+    /// The worst of the lamps that were on, and of whether there were codes.
+    pub(crate) fn worst(&self, with_codes: bool) -> Severity
+        ensures { rank result ≡ worst_shown (may_have_come self.now with_codes) }
+    {
+        if self.red.times > 0 {
+            Severity::Red
+        } else if self.amber.times > 0 {
+            Severity::Amber
+        } else if self.malfunction.times > 0 {
+            Severity::Malfunction
+        } else if self.protect.times > 0 {
+            Severity::Protect
+        } else if with_codes {
+            Severity::Codes
+        } else {
+            Severity::Fine
         }
     }
 

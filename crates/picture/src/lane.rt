@@ -1,4 +1,5 @@
-ghost use Rattle.std.specs.Prelude.{◌≤◌};
+ghost use Rattle.std.specs.Prelude.{◌≡◌, ◌≤◌, IfOk};
+ghost use Rattle.picture.specs.Units.{same_unit};
 
 use crate::brief::Brief;
 use crate::severity::Severity;
@@ -7,6 +8,7 @@ use crate::track::Track;
 use crate::unit::{DrawnUnit, Sender};
 use dm_messages::Kind;
 use std::alloc::{AllocError, Global};
+use std::marker::Model;
 
 /// How many spans of held addresses a lane keeps, at most.
 pub const ADDRESS_SPANS: usize = 128;
@@ -36,6 +38,22 @@ pub struct UnitLane {
     dm1: MessageMarks,
     dm2: MessageMarks,
     dm6: MessageMarks,
+}
+
+impl Model for UnitLane {
+    ghost use Rattle.picture.specs.Lanes.{DrawnLane};
+
+    ghost Value = { DrawnLane };
+
+    ghost view = { λ l. record {
+      unit = l.unit;
+      addresses = l.addresses;
+      holding = l.holding;
+      is_past = l.is_past;
+      dm1 = l.dm1;
+      dm2 = l.dm2;
+      dm6 = l.dm6;
+    } };
 }
 
 /// Which address a unit holds, as far as was read.
@@ -75,7 +93,9 @@ impl MessageMarks {
         }
     }
 
-    fn copy(&self, alloc: Global) -> Result<MessageMarks, AllocError> {
+    fn copy(&self, alloc: Global) -> Result<MessageMarks, AllocError>
+        ensures { IfOk result (λ marks. marks ≡ self.now) }
+    {
         Ok(MessageMarks {
             ended: self.ended.copy(alloc)?,
             newest: self.newest,
@@ -133,7 +153,9 @@ impl UnitLane {
     }
 
     /// The same lane once more.
-    pub(crate) fn copy(&self, alloc: Global) -> Result<UnitLane, AllocError> {
+    pub(crate) fn copy(&self, alloc: Global) -> Result<UnitLane, AllocError>
+        ensures { IfOk result (λ lane. lane ≡ self.now) }
+    {
         Ok(UnitLane {
             unit: self.unit,
             addresses: self.addresses.copy(alloc)?,
@@ -146,18 +168,24 @@ impl UnitLane {
     }
 
     /// Whose it is.
-    pub fn unit(&self) -> &DrawnUnit {
+    pub fn unit(&self) -> &DrawnUnit
+        ensures { result.now ≡ self.now.unit }
+    {
         &self.unit
     }
 
     /// Whether it is of this unit.
-    pub(crate) fn is_of(&self, unit: &DrawnUnit) -> bool {
+    pub(crate) fn is_of(&self, unit: &DrawnUnit) -> bool
+        ensures { result ≡ same_unit self.now.unit unit.now }
+    {
         self.unit == *unit
     }
 
     /// Whether it is of an address that nobody has claimed, and frames were missed since, or somebody claimed it: who sends from
     /// there now is another lane's.
-    pub fn is_past(&self) -> bool {
+    pub fn is_past(&self) -> bool
+        ensures { result ≡ self.now.is_past }
+    {
         self.is_past
     }
 
@@ -194,12 +222,16 @@ impl UnitLane {
     }
 
     /// When it held which address.
-    pub fn addresses(&self) -> &[Span] {
+    pub fn addresses(&self) -> &[Span]
+        ensures { result.now ≡ self.now.addresses.spans }
+    {
         self.addresses.spans()
     }
 
     /// Which address it holds.
-    pub fn holding(&self) -> Holding {
+    pub fn holding(&self) -> Holding
+        ensures { result ≡ self.now.holding }
+    {
         self.holding
     }
 

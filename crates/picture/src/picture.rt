@@ -1,4 +1,5 @@
-ghost use Rattle.std.specs.Prelude.{◌≡◌, ◌++◌, ◌∷◌, [], OnOk, OnErr};
+ghost use Rattle.std.specs.Prelude.{◌≡◌, ◌++◌, ◌∷◌, [], IfOk, OnOk, OnErr, option_map};
+ghost use Rattle.picture.specs.Lanes.{lane_in, lane_place};
 
 use crate::brief::Brief;
 use crate::handover::Handover;
@@ -10,6 +11,7 @@ use crate::unit::DrawnUnit;
 use candump_line::Time;
 use dm_messages::Kind;
 use std::alloc::{AllocError, Global};
+use std::marker::Model;
 
 /// How many units have a lane, at most.
 pub const LANES: usize = 64;
@@ -57,6 +59,25 @@ pub struct Picture {
     line: u64,
     start: Option<u64>,
     newest: u64,
+}
+
+impl Model for Picture {
+    ghost use Rattle.picture.specs.Pictures.{PictureValue};
+
+    ghost Value = { PictureValue };
+
+    ghost view = { λ p. record {
+      lanes = p.lanes.items;
+      gaps = p.gaps;
+      handovers = p.handovers.items;
+      handovers_left_out = p.handovers_left_out;
+      history = p.history;
+      undrawn = p.undrawn;
+      axis = p.axis;
+      line = p.line;
+      start = p.start;
+      newest = p.newest;
+    } };
 }
 
 impl Picture {
@@ -120,17 +141,23 @@ impl Picture {
     }
 
     /// How many lines were read.
-    pub fn lines(&self) -> u64 {
+    pub fn lines(&self) -> u64
+        ensures { result ≡ self.now.line }
+    {
         self.line
     }
 
     /// The lanes, in the order in which their units were first told of.
-    pub fn lanes(&self) -> &[UnitLane] {
+    pub fn lanes(&self) -> &[UnitLane]
+        ensures { result.now ≡ self.now.lanes }
+    {
         self.lanes.as_slice()
     }
 
     /// The lane of a unit.
-    pub fn lane_of(&self, unit: &DrawnUnit) -> Option<&UnitLane> {
+    pub fn lane_of(&self, unit: &DrawnUnit) -> Option<&UnitLane>
+        ensures { option_map (λ lane. lane.now) result ≡ lane_in self.now.lanes unit.now }
+    {
         match self.place_of(unit) {
             Some(place) => self.lanes.get(place),
             None => None,
@@ -138,27 +165,37 @@ impl Picture {
     }
 
     /// Where frames were missed.
-    pub fn gaps(&self) -> &[Span] {
+    pub fn gaps(&self) -> &[Span]
+        ensures { result.now ≡ self.now.gaps.spans }
+    {
         self.gaps.spans()
     }
 
     /// Which addresses changed hands, oldest first; of very many the first.
-    pub fn handovers(&self) -> &[Handover] {
+    pub fn handovers(&self) -> &[Handover]
+        ensures { result.now ≡ self.now.handovers }
+    {
         self.handovers.as_slice()
     }
 
     /// How many further times an address changed hands.
-    pub fn handovers_left_out(&self) -> u64 {
+    pub fn handovers_left_out(&self) -> u64
+        ensures { result ≡ self.now.handovers_left_out }
+    {
         self.handovers_left_out
     }
 
     /// The changes.
-    pub fn history(&self) -> &History {
+    pub fn history(&self) -> &History
+        ensures { result.now ≡ self.now.history }
+    {
         &self.history
     }
 
     /// How many changes were told of units that have no lane.
-    pub fn undrawn(&self) -> u64 {
+    pub fn undrawn(&self) -> u64
+        ensures { result ≡ self.now.undrawn }
+    {
         self.undrawn
     }
 
@@ -199,17 +236,16 @@ impl Picture {
     ///
     /// # Errors
     /// Memory was refused.
-    pub fn copy_lanes(&self) -> Result<Vec<UnitLane>, AllocError> {
-        let mut lanes = Vec::new(self.alloc);
-        for lane in self.lanes.iter() {
-            lanes.reserve(1)?;
-            lanes.push_reserved(lane.copy(self.alloc)?);
-        }
-        Ok(lanes)
+    pub fn copy_lanes(&self) -> Result<Vec<UnitLane>, AllocError>
+        ensures { IfOk result (λ lanes. lanes.items ≡ self.now.lanes) }
+    {
+        copied(self.alloc, self.lanes.as_slice())
     }
 
-    /// The lanes are these again.
-    pub fn put_lanes(&mut self, lanes: Vec<UnitLane>) {
+    /// The lanes are these again; all else stays as it is.
+    pub fn put_lanes(&mut self, lanes: Vec<UnitLane>)
+        ensures { self.new ≡ record self.old { lanes = lanes.items } }
+    {
         self.lanes = lanes;
     }
 
@@ -336,13 +372,10 @@ impl Picture {
     }
 
     /// The place of the lane of a unit.
-    fn place_of(&self, unit: &DrawnUnit) -> Option<usize> {
-        for (place, lane) in self.lanes.iter().enumerate() {
-            if lane.is_of(unit) {
-                return Some(place);
-            }
-        }
-        None
+    fn place_of(&self, unit: &DrawnUnit) -> Option<usize>
+        ensures { result ≡ lane_place unit.now self.now.lanes }
+    {
+        place_among(self.lanes.as_slice(), unit)
     }
 
     /// The place of the lane of a unit, which gets one where there is room; else the change is counted.
@@ -360,6 +393,24 @@ impl Picture {
         self.lanes.push_reserved(lane);
         Ok(Some(place))
     }
+}
+
+/// The place of the lane of a unit.
+fn place_among(lanes: &[UnitLane], unit: &DrawnUnit) -> Option<usize>
+    ensures { result ≡ lane_place unit.now lanes.now }
+{
+    lanes.iter().position(|lane| lane.is_of(unit))
+}
+
+/// The same lanes once more.
+fn copied(alloc: Global, lanes: &[UnitLane]) -> Result<Vec<UnitLane>, AllocError>
+    ensures { IfOk result (λ copies. copies.items ≡ lanes.now) }
+{
+    let mut copies = Vec::new(alloc);
+    for lane in lanes {
+        copies.push(lane.copy(alloc)?)?;
+    }
+    Ok(copies)
 }
 
 /// Puts a handover behind all others. Where memory is refused, nothing changes.

@@ -1,5 +1,5 @@
 ghost use Rattle.std.specs.Prelude.{◌≡◌, max};
-ghost use Rattle.picture.specs.Spans.{rank};
+ghost use Rattle.picture.specs.Severities.{may_show, of_lamp, rank, worst_shown};
 
 use trouble_code::{LampName, Lamps};
 
@@ -27,7 +27,9 @@ const ON: u8 = 1;
 
 impl Severity {
     /// How bad it is what lamps and so many readable codes tell, of a message that was read in part or whole.
-    pub fn of(lamps: Lamps, codes: usize, partly: bool) -> Severity {
+    pub fn of(lamps: Lamps, codes: usize, partly: bool) -> Severity
+        ensures { rank result ≡ worst_shown (may_show lamps codes partly) }
+    {
         if lamps.lamp(LampName::RedStop) == ON {
             Severity::Red
         } else if lamps.lamp(LampName::Amber) == ON {
@@ -42,6 +44,18 @@ impl Severity {
             Severity::Partly
         } else {
             Severity::Fine
+        }
+    }
+
+    /// How bad it is that a lamp is on.
+    pub fn of_lamp(name: LampName) -> Severity
+        ensures { result ≡ of_lamp name }
+    {
+        match name {
+            LampName::Protect => Severity::Protect,
+            LampName::Malfunction => Severity::Malfunction,
+            LampName::Amber => Severity::Amber,
+            LampName::RedStop => Severity::Red,
         }
     }
 

@@ -288,7 +288,6 @@ fn tell_entry(
     let brief = Brief::of(
         run.shown.lamps,
         run.shown.codes.as_slice(),
-        run.to,
         run.contested,
         run.trouble.is_some(),
     );

@@ -227,7 +227,7 @@ fn write_message<W: Write>(
 ) {
     write_brief(page, words, brief);
     fill_bar(page, class_of(brief.severity()));
-    if brief.contested {
+    if brief.is_contested() {
         page.markup("<rect width=\"100%\" height=\"100%\" class=\"doubt\"/>");
     }
     end_bar(page, row, label_of(brief), width);
@@ -235,7 +235,7 @@ fn write_message<W: Write>(
 
 /// The codes of a message, or how bad it is where it has none.
 fn label_of(brief: &Brief) -> LabelTold<'_> {
-    if brief.count == 0 {
+    if brief.count() == 0 {
         LabelTold::Word(label_word(brief.severity()))
     } else {
         LabelTold::Codes(brief)

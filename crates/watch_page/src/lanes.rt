@@ -5,7 +5,8 @@ use crate::bars::{
 };
 use crate::labels::{write_identity, write_label};
 use crate::pieces::{by_count, write_count};
-use crate::standing::{ALL_ORDERS, Presence, order_of, presence_of, severity_now};
+use crate::standing::{ALL_ORDERS, order_of, presence_of, severity_now};
+use crate::unit_list::Presence;
 use crate::view::View;
 use crate::words::PageWords;
 use dm_messages::Kind;

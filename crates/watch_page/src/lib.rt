@@ -22,10 +22,13 @@ mod since;
 mod standing;
 mod style;
 mod table;
+mod unit_list;
 mod values;
 mod view;
 mod words;
 
 pub use page::write_page;
 pub use safe_text::PageFault;
+pub use standing::Standing;
+pub use unit_list::{Listed, MOST_LISTED, ORDERS, Presence};
 pub use view::View;

@@ -1,3 +1,7 @@
+ghost use Rattle.std.specs.Prelude.{◌≡◌};
+ghost use Rattle.picture.specs.Severities.{is_lit};
+ghost use Rattle.watch_page.specs.Colours.{colour, lamp_colour};
+
 use crate::pieces::{by_count, write_between, write_count};
 use crate::words::PageWords;
 use dm_messages::Kind;
@@ -33,14 +37,11 @@ pub(crate) fn lamp_word(lamp: LampName) -> &'static str {
     }
 }
 
-/// The class of its colour.
-pub(crate) fn lamp_class(lamp: LampName) -> &'static str {
-    match lamp {
-        LampName::RedStop => "red",
-        LampName::Amber => "amber",
-        LampName::Malfunction => "mil",
-        LampName::Protect => "protect",
-    }
+/// The class of the colour of a lamp that is on: of how bad that is.
+pub(crate) fn lamp_class(lamp: LampName) -> &'static str
+    ensures { result.now ≡ lamp_colour lamp }
+{
+    class_of(Severity::of_lamp(lamp))
 }
 
 /// The word of a kind of message.
@@ -53,7 +54,9 @@ pub(crate) fn kind_word(kind: Kind) -> &'static str {
 }
 
 /// The class of the colour of how bad something is.
-pub(crate) fn class_of(severity: Severity) -> &'static str {
+pub(crate) fn class_of(severity: Severity) -> &'static str
+    ensures { result.now ≡ colour severity }
+{
     match severity {
         Severity::Fine => "fine",
         Severity::Partly => "changing",
@@ -92,7 +95,9 @@ pub(crate) fn label_word(severity: Severity) -> &'static str {
 }
 
 /// Whether a lamp is on.
-pub(crate) fn is_on(lamps: Lamps, lamp: LampName) -> bool {
+pub(crate) fn is_on(lamps: Lamps, lamp: LampName) -> bool
+    ensures { result ≡ is_lit lamp lamps }
+{
     lamps.lamp(lamp) == ON
 }
 
@@ -183,15 +188,15 @@ pub(crate) fn write_seen<W: Write>(page: &mut Page<W>, code: Dtc) {
 pub(crate) fn write_brief<W: Write>(page: &mut Page<W>, words: &PageWords<'_>, brief: &Brief) {
     write_lamps(page, brief.lamps());
     page.markup("; ");
-    if brief.count == 0 {
-        page.markup(no_code_words(brief.partly));
+    if brief.count() == 0 {
+        page.markup(no_code_words(brief.is_partly()));
     }
     write_codes(page, words, brief);
     write_more(page, brief.left_out());
-    if brief.partly {
+    if brief.is_partly() {
         page.markup(" (read in part)");
     }
-    if brief.contested {
+    if brief.is_contested() {
         page.markup(" (in doubt)");
     }
 }

@@ -8,7 +8,8 @@ use crate::message_words::{
 use crate::moment::write_moment;
 use crate::pieces::{write_between, write_count};
 use crate::silence::write_silence;
-use crate::standing::{ALL_ORDERS, Listed, Presence, Standing};
+use crate::standing::{ALL_ORDERS, Standing};
+use crate::unit_list::{Listed, Presence};
 use crate::view::View;
 use crate::words::PageWords;
 use bus_watch::{EntryRun, Watch, Who};
@@ -87,7 +88,7 @@ fn write_order<W: Write>(
     before: u64,
 ) -> u64 {
     let mut written = before;
-    for listed in standing.listed.as_slice() {
+    for listed in standing.listed() {
         if listed.order == order && written < MOST && page.has_room(ROOM) {
             write_unit(page, view, words, listed);
             written = written.saturating_add(1);

@@ -1,3 +1,8 @@
+ghost use Rattle.std.specs.Prelude.{◌≡◌};
+ghost use Rattle.picture.specs.EverInLogs.{worst_in};
+ghost use Rattle.picture.specs.Severities.{rank};
+ghost use Rattle.watch_page.specs.Standing as told;
+
 use bus_watch::{BusWatch, Watch, Who};
 use dm_messages::Kind;
 use log_lines::ClockForm;
@@ -43,7 +48,9 @@ impl<'a> View<'a> {
     }
 
     /// The worst that a unit told by DM1 at any time.
-    pub(crate) fn worst_ever(&self, unit: &DrawnUnit) -> Severity {
+    pub(crate) fn worst_ever(&self, unit: &DrawnUnit) -> Severity
+        ensures { rank result ≡ worst_in self.now.ever.now unit.now }
+    {
         self.ever.worst(unit)
     }
 
@@ -58,57 +65,11 @@ impl<'a> View<'a> {
 }
 
 /// Whom a watch has there.
-pub(crate) fn who_of(sender: &Sender) -> Who {
+pub(crate) fn who_of(sender: &Sender) -> Who
+    ensures { result ≡ told.who_by sender.now }
+{
     match *sender {
         Sender::Named(name) => Who::Named(Name::from_number(name)),
         Sender::Unclaimed { address, gaps } => Who::Unclaimed { address, gaps },
     }
-}
-
-/// How many places of units a watch has, of which some stay empty.
-pub(crate) fn places_of(watch: &Watch) -> usize {
-    watch
-        .names()
-        .saturating_add(watch.units())
-        .saturating_add(watch.identifications())
-}
-
-/// The sender at this place: first all NAMEs, in the order of their first claims, then the addresses that nobody has claimed, those that
-/// told an identification alone last. A place behind the NAMEs where the entry, or the identification, was one of a NAME stays empty.
-pub(crate) fn sender_at(watch: &Watch, place: usize) -> Option<Sender> {
-    let names = watch.names();
-    if place < names {
-        return match watch.name_at(place) {
-            Some(name) => Some(Sender::Named(name.number())),
-            None => None,
-        };
-    }
-    match unit_behind_names(watch, place - names) {
-        Some(Who::Unclaimed { address, gaps }) => Some(Sender::Unclaimed { address, gaps }),
-        _ => None,
-    }
-}
-
-/// The unit at this place behind the NAMEs, where it is the first that it has there.
-fn unit_behind_names(watch: &Watch, place: usize) -> Option<Who> {
-    let units = watch.units();
-    if place < units {
-        return watch.unit_at(place);
-    }
-    let who = watch.identified_unit_at(place - units)?;
-    if has_entries(watch, &who) {
-        None
-    } else {
-        Some(who)
-    }
-}
-
-/// Whether a unit has an entry of some kind.
-fn has_entries(watch: &Watch, who: &Who) -> bool {
-    for kind in [Kind::Dm1, Kind::Dm2, Kind::Dm6] {
-        if !watch.runs(*who, kind).is_empty() {
-            return true;
-        }
-    }
-    false
 }

@@ -1,0 +1,17 @@
+use Rattle.std.proofs.Common.{◌≡◌, ap, ◌∙◌, length, arith}
+use Rattle.bus_model.specs.Heard.{names_heard}
+use Rattle.bus_watch.specs.Runs.{units_shown}
+use Rattle.bus_watch.specs.Told.{all_said, readings_said}
+use Rattle.watch_page.specs.Standing.{named}
+use Rattle.watch_page.proofs.Placing.{place_more}
+use Rattle.watch_page.proofs.standing.Standing.add_names.Goals as goal
+
+pub loop-place-preserved : goal.loop-place-preserved
+loop-place-preserved c h so units st pr u =
+    place_more _ c.args.bus c.loop-place.place _ so units _ (c.named.ensures ∙ ap named (c.name_at.ensures.heard h.began h.told st)) (c.in_ok-add.ensures h so _ st pr (c.loop-place.invariant h so units st pr u))
+
+pub returns : goal.returns
+returns c h so units st pr u =
+    let all = c.names-place-end.ensures.heard h.began h.told st in
+    let ends : c.loop-place.place ≡ length (names_heard (readings_said h.began h.told)) = omega (arith, all, c.loop-place-test.false, c.loop-place.auto.place-end) in
+    rw (← ends) (c.loop-place.invariant h so units st pr u)

@@ -1,0 +1,4 @@
+pub mod Writing
+pub mod CsvCells
+pub mod CsvRows
+pub mod CsvUnits

@@ -1,5 +1,8 @@
 //! What a unit told of itself, in each form: no memory is asked for. Of any bytes only what can be printed in ASCII stands as it is.
 
+ghost use Rattle.watch_reports.specs.Writing.{WroteSome};
+
+use crate::cells::{quote_around, write_guard};
 use crate::object_parts::{write_bus as write_bus_key, write_time, write_who};
 use crate::options::ReportOptions;
 use crate::report_writer::ReportWriter;
@@ -138,44 +141,54 @@ fn write_string<W: Write>(report: &mut ReportWriter<'_, W>, text: &[u8]) {
 }
 
 /// As values, each behind a comma.
-pub(crate) fn write_values<W: Write>(report: &mut ReportWriter<'_, W>, watch: &Watch, who: &Who) {
+#[tactic(auto, using(crate::proofs::Writing::some_text, crate::proofs::Writing::some_both, crate::proofs::Writing::some_nothing))]
+pub(crate) fn write_values<W: Write>(report: &mut ReportWriter<'_, W>, watch: &Watch, who: &Who)
+    ensures { WroteSome W.contents report.old report.new }
+{
     for what in IDENTIFICATIONS {
-        report.text(",");
         write_value(report, watch.identification(*who, what));
     }
 }
 
-/// A value, in quotes where it has a comma or a quote. No spreadsheet takes it for a formula: an apostrophe stands before one that begins
-/// as such.
-fn write_value<W: Write>(report: &mut ReportWriter<'_, W>, text: &[u8]) {
-    let quote = if needs_quotes(text) { "\"" } else { "" };
+/// A value behind a comma, in quotes where it has a comma or a quote. No spreadsheet takes it for a formula: an apostrophe
+/// stands before one that begins as such.
+fn write_value<W: Write>(report: &mut ReportWriter<'_, W>, text: &[u8])
+    ensures { WroteSome W.contents report.old report.new }
+{
+    let quote = quote_around(text);
+    report.text(",");
     report.text(quote);
-    if let Some(b'=' | b'+' | b'-' | b'@') = text.first() {
-        report.text("'");
-    }
-    for byte in told_front(text) {
-        match *byte {
-            b'"' => report.text("\"\""),
-            byte => write_byte(report, byte, "\\x"),
-        }
-    }
+    write_guard(report, text);
+    write_bytes(report, told_front(text));
     report.text(mark_of_cut(text));
     report.text(quote);
 }
 
-/// Whether a text has a comma or a quote.
-fn needs_quotes(text: &[u8]) -> bool {
-    for byte in text {
-        match *byte {
-            b',' | b'"' => return true,
-            _ => {}
-        }
+#[tactic(auto, using(crate::proofs::Writing::some_text, crate::proofs::Writing::some_both, crate::proofs::Writing::some_nothing))]
+fn write_bytes<W: Write>(report: &mut ReportWriter<'_, W>, bytes: &[u8])
+    ensures { WroteSome W.contents report.old report.new }
+{
+    for byte in bytes {
+        write_told(report, *byte);
     }
-    false
+}
+
+/// A byte of a value, a quote twice.
+#[tactic(auto, using(crate::proofs::Writing::some_text, crate::proofs::Writing::some_both, crate::proofs::Writing::some_nothing))]
+fn write_told<W: Write>(report: &mut ReportWriter<'_, W>, byte: u8)
+    ensures { WroteSome W.contents report.old report.new }
+{
+    match byte {
+        b'"' => report.text("\"\""),
+        byte => write_byte(report, byte, "\\x"),
+    }
 }
 
 /// A byte that can be printed, and any other by its number, with this before it.
-fn write_byte<W: Write>(report: &mut ReportWriter<'_, W>, byte: u8, before: &'static str) {
+#[tactic(auto, using(crate::proofs::Writing::some_text, crate::proofs::Writing::some_both, crate::proofs::Writing::some_nothing))]
+fn write_byte<W: Write>(report: &mut ReportWriter<'_, W>, byte: u8, before: &'static str)
+    ensures { WroteSome W.contents report.old report.new }
+{
     if byte > 31 && byte < 127 {
         let letter = char::from(byte);
         write!(report, "{letter}");

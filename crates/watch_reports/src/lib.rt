@@ -4,6 +4,7 @@
 
 mod assumed;
 mod broken;
+mod cells;
 mod earlier;
 mod ever_object;
 mod ever_rows;

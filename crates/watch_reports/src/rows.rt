@@ -1,20 +1,26 @@
 //! The report as comma-separated values, written as it goes: nothing of it is held, and no memory is asked for.
 
+ghost use Rattle.std.specs.Prelude.{◌≡◌, ◌∷◌, [], List, Some, ℕ, codes, is_some, map, option_map};
+ghost use Rattle.std.specs.List.{flat_map};
+ghost use Rattle.bus_watch.specs.Told.{Beginning, StandsForAll, Told};
+ghost use Rattle.watch_reports.specs.CsvRows as rows;
+ghost use Rattle.watch_reports.specs.CsvRows.{WroteCsv, WroteRows, bare_row, code_row, names_before, header_text, kind_rows, run_rows, unit_in};
+ghost use Rattle.watch_reports.specs.CsvUnits.{StandEach, kinds_rows, rows_if, shown_at_place, unit_rows, unit_said, watch_rows, watches_rows};
+ghost use Rattle.watch_reports.specs.Writing.{Wrote, WroteSome};
+
+use crate::cells::{
+    write_bare_cells, write_bus, write_cells, write_fields, write_name, write_text, write_texts,
+};
 use crate::ever_rows::{EVER_HEADER, write_ever, write_no_ever};
 use crate::identifications::{self, IDENTIFICATION_HEADER};
 use crate::options::{ReportOptions, ReportPart, Reported};
 use crate::report_writer::ReportWriter;
 use crate::reported_bus::ReportedBus;
-use crate::units::{KINDS, WhoValue, address_of, has_entries, kind_word, row_at, row_places};
+use crate::units::{address_of, has_entries, row_at, row_places};
 use crate::value_rows::{VALUE_HEADER, write_no_value, write_value_rows};
-use bus_watch::{BusWatch, EntryRun, Watch, Who};
-use can_frame::GLOBAL_ADDRESS;
-use candump_line::Time;
-use dm_messages::Kind;
-use dm_words::{LampBytes, NO_COUNT, TroubleWords, failure_mode_words};
-use name_field::Name;
-use safe_text::{Seen, SeenCharacter};
-use shop_texts::{Texts, UnitTexts};
+use bus_watch::{BusWatch, EntryRun, Who};
+use dm_messages::{Kind, Trouble};
+use dm_words::{TroubleWords, failure_mode_words};
 use std::io::Write;
 use trouble_code::Dtc;
 
@@ -24,9 +30,9 @@ const HEADER: &str =
 
 /// A run of equal entries of a kind.
 #[derive(Clone, Copy)]
-struct KindRun<'a> {
-    kind: Kind,
-    run: &'a EntryRun,
+pub(crate) struct KindRun<'a> {
+    pub(crate) kind: Kind,
+    pub(crate) run: &'a EntryRun,
 }
 
 /// Writes the report: a row for each code of each run of equal entries, one without a code for a run without codes, and one
@@ -39,10 +45,25 @@ pub(crate) fn write_rows<W: Write>(
     told: &Reported<'_>,
     options: &ReportOptions<'_>,
     part: ReportPart,
-) {
-    if is_first(part) {
-        write_header(report, told.buses.are_each(), options);
-    }
+)
+    ensures { (b : ℕ → Beginning) (ts : ℕ → List Told) → StandEach b ts told.now.buses.now.watches
+        → WroteCsv W.contents report.old report.new (names_before part told.now.buses.now.each (is_some options.now.signals))
+        (watches_rows b ts 0 told.now.buses.now.watches) }
+{
+    write_head(report, part, told.buses.are_each(), options);
+    write_watches(report, told, options);
+    write_value_rows(report, told, options);
+}
+
+/// The rows of each watch.
+fn write_watches<W: Write>(
+    report: &mut ReportWriter<'_, W>,
+    told: &Reported<'_>,
+    options: &ReportOptions<'_>,
+)
+    ensures { (b : ℕ → Beginning) (ts : ℕ → List Told) → StandEach b ts told.now.buses.now.watches
+        → WroteRows W.contents report.old report.new (watches_rows b ts 0 told.now.buses.now.watches) }
+{
     for (place, one) in told.buses.watches().iter().enumerate() {
         let bus = ReportedBus {
             one,
@@ -52,11 +73,26 @@ pub(crate) fn write_rows<W: Write>(
         };
         write_bus_rows(report, &bus, options);
     }
-    write_value_rows(report, told, options);
+}
+
+/// The names of the values, where no rows stand before this part.
+fn write_head<W: Write>(
+    report: &mut ReportWriter<'_, W>,
+    part: ReportPart,
+    names_bus: bool,
+    options: &ReportOptions<'_>,
+)
+    ensures { Wrote W.contents report.old report.new (names_before part names_bus (is_some options.now.signals)) }
+{
+    if is_first(part) {
+        write_header(report, names_bus, options);
+    }
 }
 
 /// Whether no rows stand before this part.
-fn is_first(part: ReportPart) -> bool {
+fn is_first(part: ReportPart) -> bool
+    ensures { result ≡ rows.is_first part }
+{
     match part {
         ReportPart::Before { is_first, .. } => is_first,
         ReportPart::Last { is_all } => is_all,
@@ -68,27 +104,48 @@ fn write_header<W: Write>(
     report: &mut ReportWriter<'_, W>,
     names_bus: bool,
     options: &ReportOptions<'_>,
-) {
+)
+    ensures { Wrote W.contents report.old report.new (header_text names_bus (is_some options.now.signals)) }
+{
+    write_first_names(report, names_bus);
+    write_other_names(report);
+    write_signal_names(report, options);
+    report.text("\n");
+}
+
+#[tactic(auto, unfolding(crate::specs::CsvRows::first_names))]
+fn write_first_names<W: Write>(report: &mut ReportWriter<'_, W>, names_bus: bool)
+    ensures { Wrote W.contents report.old report.new (rows.first_names names_bus) }
+{
     report.text(HEADER);
+    write_bus_name(report, names_bus);
+}
+
+fn write_bus_name<W: Write>(report: &mut ReportWriter<'_, W>, names_bus: bool)
+    ensures { Wrote W.contents report.old report.new (rows.if_so names_bus (codes ",bus")) }
+{
     if names_bus {
         report.text(",bus");
     }
+}
+
+#[tactic(auto, unfolding(crate::specs::CsvRows::other_names))]
+fn write_other_names<W: Write>(report: &mut ReportWriter<'_, W>)
+    ensures { Wrote W.contents report.old report.new rows.other_names }
+{
     report.text(",function,instance,manufacturer,identity,unit_text,code_text,name_hex");
     report.text(EVER_HEADER);
     report.text(",fmi_text,not_read");
     report.text(IDENTIFICATION_HEADER);
+}
+
+#[tactic(auto, unfolding(crate::specs::CsvRows::signal_names))]
+fn write_signal_names<W: Write>(report: &mut ReportWriter<'_, W>, options: &ReportOptions<'_>)
+    ensures { Wrote W.contents report.old report.new (rows.signal_names (is_some options.now.signals)) }
+{
     if options.signals.is_some() {
         report.text(VALUE_HEADER);
     }
-    report.text("\n");
-}
-
-/// The end of a row without a signal.
-fn write_end<W: Write>(report: &mut ReportWriter<'_, W>, options: &ReportOptions<'_>) {
-    if options.signals.is_some() {
-        write_no_value(report);
-    }
-    report.text("\n");
 }
 
 /// The rows of a bus.
@@ -96,15 +153,38 @@ fn write_bus_rows<W: Write>(
     report: &mut ReportWriter<'_, W>,
     bus: &ReportedBus<'_>,
     options: &ReportOptions<'_>,
-) {
+)
+    ensures { (b : Beginning) (ts : List Told) → StandsForAll b ts bus.now.one.now.watch
+        → WroteRows W.contents report.old report.new (watch_rows b ts bus.now.one.now) }
+{
     for place in 0..row_places(&bus.one.watch) {
         if report.has_failed() {
             return;
         }
-        if let Some(who) = &row_at(&bus.one.watch, place) {
-            write_unit(report, bus, options, who);
-        }
+        write_place(report, bus, options, place);
     }
+}
+
+/// The rows of the unit at a place, where they are shown.
+fn write_place<W: Write>(
+    report: &mut ReportWriter<'_, W>,
+    bus: &ReportedBus<'_>,
+    options: &ReportOptions<'_>,
+    place: usize,
+)
+    ensures { (b : Beginning) (ts : List Told) → StandsForAll b ts bus.now.one.now.watch
+        → WroteRows W.contents report.old report.new (rows_if b ts bus.now.one.now (shown_at_place b ts bus.now.one.now.watch place)) }
+{
+    if let Some(who) = &row_at(&bus.one.watch, place) {
+        write_unit(report, bus, options, who);
+    }
+}
+
+/// A unit whose rows are written, and its address, if it has one.
+#[derive(Clone, Copy)]
+struct ToldUnit {
+    who: Who,
+    address: Option<u8>,
 }
 
 /// The rows of a unit.
@@ -113,14 +193,34 @@ fn write_unit<W: Write>(
     bus: &ReportedBus<'_>,
     options: &ReportOptions<'_>,
     who: &Who,
-) {
-    if !has_entries(&bus.one.watch, who) {
-        write_without_kind(report, bus.one, options, who);
-        return;
+)
+    ensures { (b : Beginning) (ts : List Told) → StandsForAll b ts bus.now.one.now.watch
+        → WroteRows W.contents report.old report.new (unit_rows b ts (unit_said b ts bus.now.one.now who.now)) }
+{
+    let unit = ToldUnit {
+        who: *who,
+        address: address_of(&bus.one.watch, who),
+    };
+    if has_entries(&bus.one.watch, who) {
+        write_kinds(report, bus, options, &unit);
+    } else {
+        write_without_kind(report, bus.one, options, &unit);
     }
-    for kind in KINDS {
-        write_runs(report, bus, options, who, kind);
-    }
+}
+
+/// The rows of a unit that has entries.
+fn write_kinds<W: Write>(
+    report: &mut ReportWriter<'_, W>,
+    bus: &ReportedBus<'_>,
+    options: &ReportOptions<'_>,
+    unit: &ToldUnit,
+)
+    ensures { (b : Beginning) (ts : List Told) → StandsForAll b ts bus.now.one.now.watch
+        → WroteRows W.contents report.old report.new (kinds_rows b ts (unit_in unit.now bus.now.one.now)) }
+{
+    write_runs(report, bus, options, unit, Kind::Dm1);
+    write_runs(report, bus, options, unit, Kind::Dm2);
+    write_runs(report, bus, options, unit, Kind::Dm6);
 }
 
 /// The row of a unit without entries.
@@ -128,15 +228,45 @@ fn write_without_kind<W: Write>(
     report: &mut ReportWriter<'_, W>,
     one: &BusWatch,
     options: &ReportOptions<'_>,
+    unit: &ToldUnit,
+)
+    ensures { WroteRows W.contents report.old report.new (bare_row (unit_in unit.now one.now) ∷ []) }
+{
+    write_name(report, &unit.who);
+    write_bare_cells(report, unit.address);
+    write_bus(report, one);
+    write_fields(report, &unit.who);
+    report.text(",");
+    write_bare_more(report, one, options, &unit.who);
+    report.text("\n");
+}
+
+/// What stands behind a comma in such a row.
+fn write_bare_more<W: Write>(
+    report: &mut ReportWriter<'_, W>,
+    one: &BusWatch,
+    options: &ReportOptions<'_>,
     who: &Who,
-) {
-    write_front(report, &one.watch, who);
-    report.text(",,,,,,,,,,");
-    write_words(report, one, options, who, None);
+)
+    ensures { WroteSome W.contents report.old report.new }
+{
+    write_words(report, one, options, who);
+    write_no_values(report, options);
+}
+
+/// The texts for a unit, as many empty values as what it told at any time has, and what it tells of itself.
+pub(crate) fn write_words<W: Write>(
+    report: &mut ReportWriter<'_, W>,
+    one: &BusWatch,
+    options: &ReportOptions<'_>,
+    who: &Who,
+)
+    ensures { WroteSome W.contents report.old report.new }
+{
+    write_texts(report, options, who, None);
     write_no_ever(report);
     report.text(",,");
     identifications::write_values(report, &one.watch, who);
-    write_end(report, options);
 }
 
 /// The rows of a kind of messages.
@@ -144,25 +274,30 @@ fn write_runs<W: Write>(
     report: &mut ReportWriter<'_, W>,
     bus: &ReportedBus<'_>,
     options: &ReportOptions<'_>,
-    who: &Who,
+    unit: &ToldUnit,
     kind: Kind,
-) {
-    for run in bus.one.watch.runs(*who, kind) {
-        write_run(report, bus, options, who, &KindRun { kind, run });
-    }
+)
+    ensures { (b : Beginning) (ts : List Told) → StandsForAll b ts bus.now.one.now.watch
+        → WroteRows W.contents report.old report.new (kind_rows b ts (unit_in unit.now bus.now.one.now) kind) }
+{
+    let runs = bus.one.watch.runs(unit.who, kind);
+    write_each_run(report, bus, options, unit, kind, runs);
 }
 
-/// The first two values of a row: the unit, and its address. In the place of a NAME stands that nobody has claimed its address, so
-/// that no two units have the same there; that has a comma.
-pub(crate) fn write_front<W: Write>(report: &mut ReportWriter<'_, W>, watch: &Watch, who: &Who) {
-    let unit = WhoValue(*who);
-    let quote = match *who {
-        Who::Named(_) => "",
-        Who::Unclaimed { .. } => "\"",
-    };
-    write!(report, "{quote}{unit}{quote},");
-    if let Some(address) = address_of(watch, who) {
-        write!(report, "{address}");
+/// The rows of these runs.
+#[tactic(auto, using(crate::proofs::CsvRows::rows_of_one_more, crate::proofs::CsvRows::all_taken, crate::proofs::CsvRows::rows_nothing))]
+fn write_each_run<W: Write>(
+    report: &mut ReportWriter<'_, W>,
+    bus: &ReportedBus<'_>,
+    options: &ReportOptions<'_>,
+    unit: &ToldUnit,
+    kind: Kind,
+    runs: &[EntryRun],
+)
+    ensures { WroteRows W.contents report.old report.new (flat_map (run_rows (unit_in unit.now bus.now.one.now) kind) runs.now) }
+{
+    for run in runs {
+        write_run(report, bus, options, unit, &KindRun { kind, run });
     }
 }
 
@@ -171,16 +306,33 @@ fn write_run<W: Write>(
     report: &mut ReportWriter<'_, W>,
     bus: &ReportedBus<'_>,
     options: &ReportOptions<'_>,
-    who: &Who,
+    unit: &ToldUnit,
     of: &KindRun<'_>,
-) {
+)
+    ensures { WroteRows W.contents report.old report.new (run_rows (unit_in unit.now bus.now.one.now) of.now.kind of.now.run.now) }
+{
     let codes = of.run.shown.codes.as_slice();
     if codes.is_empty() {
-        write_row(report, bus, options, who, of, None);
+        write_row(report, bus, options, unit, of, None);
         return;
     }
-    for code in codes {
-        write_row(report, bus, options, who, of, Some(code));
+    write_each_code(report, bus, options, unit, of);
+}
+
+/// The rows of each code of a run.
+#[tactic(auto, using(crate::proofs::CsvRows::one_row_more, crate::proofs::CsvRows::all_mapped, crate::proofs::CsvRows::rows_nothing))]
+fn write_each_code<W: Write>(
+    report: &mut ReportWriter<'_, W>,
+    bus: &ReportedBus<'_>,
+    options: &ReportOptions<'_>,
+    unit: &ToldUnit,
+    of: &KindRun<'_>,
+)
+    ensures { WroteRows W.contents report.old report.new
+        (map (λ code. code_row (unit_in unit.now bus.now.one.now) of.now.kind of.now.run.now (Some code)) of.now.run.now.shown.codes) }
+{
+    for code in of.run.shown.codes.as_slice() {
+        write_row(report, bus, options, unit, of, Some(code));
     }
 }
 
@@ -188,25 +340,56 @@ fn write_row<W: Write>(
     report: &mut ReportWriter<'_, W>,
     bus: &ReportedBus<'_>,
     options: &ReportOptions<'_>,
+    unit: &ToldUnit,
+    of: &KindRun<'_>,
+    code: Option<&Dtc>,
+)
+    ensures { WroteRows W.contents report.old report.new
+        (code_row (unit_in unit.now bus.now.one.now) of.now.kind of.now.run.now (option_map (λ c. c.now) code.entry) ∷ []) }
+{
+    write_name(report, &unit.who);
+    write_cells(report, unit.address, of, code);
+    write_bus(report, bus.one);
+    write_fields(report, &unit.who);
+    report.text(",");
+    write_more(report, bus, options, &unit.who, of, code);
+    report.text("\n");
+}
+
+/// What stands in a row behind what the NAME says and a comma.
+fn write_more<W: Write>(
+    report: &mut ReportWriter<'_, W>,
+    bus: &ReportedBus<'_>,
+    options: &ReportOptions<'_>,
     who: &Who,
     of: &KindRun<'_>,
     code: Option<&Dtc>,
-) {
-    let KindRun { kind, run } = *of;
-    write_front(report, &bus.one.watch, who);
-    write_values(report, kind, run);
-    write_code(report, code);
-    write_doubt(report, run.contested, run.to);
-    write_words(report, bus.one, options, who, code);
-    write_ever(report, bus, who, kind, code);
+)
+    ensures { WroteSome W.contents report.old report.new }
+{
+    write_texts(report, options, who, code);
+    write_ever(report, bus, who, of.kind, code);
     write_failure_mode(report, code);
-    write_trouble(report, run);
+    write_trouble(report, of.run);
     identifications::write_values(report, &bus.one.watch, who);
-    write_end(report, options);
+    write_no_values(report, options);
+}
+
+/// As many empty values as a row of a signal has behind the others, where values of signals are kept.
+#[tactic(auto, using(crate::proofs::Writing::some_text, crate::proofs::Writing::some_both, crate::proofs::Writing::some_nothing))]
+fn write_no_values<W: Write>(report: &mut ReportWriter<'_, W>, options: &ReportOptions<'_>)
+    ensures { WroteSome W.contents report.old report.new }
+{
+    if options.signals.is_some() {
+        write_no_value(report);
+    }
 }
 
 /// What the FMI of a code says, behind a comma.
-fn write_failure_mode<W: Write>(report: &mut ReportWriter<'_, W>, code: Option<&Dtc>) {
+#[tactic(auto, using(crate::proofs::Writing::some_text, crate::proofs::Writing::some_both, crate::proofs::Writing::some_nothing))]
+fn write_failure_mode<W: Write>(report: &mut ReportWriter<'_, W>, code: Option<&Dtc>)
+    ensures { WroteSome W.contents report.old report.new }
+{
     report.text(",");
     if let Some(code) = code {
         write_text(report, failure_mode_words(code.fmi()));
@@ -214,176 +397,20 @@ fn write_failure_mode<W: Write>(report: &mut ReportWriter<'_, W>, code: Option<&
 }
 
 /// What of a run's entries is not read, behind a comma and in quotes, where they were read in part.
-fn write_trouble<W: Write>(report: &mut ReportWriter<'_, W>, run: &EntryRun) {
+#[tactic(auto, using(crate::proofs::Writing::some_text, crate::proofs::Writing::some_both, crate::proofs::Writing::some_nothing))]
+fn write_trouble<W: Write>(report: &mut ReportWriter<'_, W>, run: &EntryRun)
+    ensures { WroteSome W.contents report.old report.new }
+{
     report.text(",");
     if let Some(trouble) = run.trouble {
-        let words = TroubleWords(trouble);
-        write!(report, "\"{words}\"");
+        write_trouble_words(report, trouble);
     }
 }
 
-/// The values between the address and the code.
-fn write_values<W: Write>(report: &mut ReportWriter<'_, W>, kind: Kind, run: &EntryRun) {
-    let kind = kind_word(kind);
-    write!(report, ",{kind},");
-    write_time(report, &run.first);
-    write_time(report, &run.last);
-    let times = run.times;
-    let lamps = LampBytes(run.shown.lamps);
-    write!(report, "{times},{lamps},");
-}
-
-/// Whether an entry is contested, and where it went, if not to all.
-fn write_doubt<W: Write>(report: &mut ReportWriter<'_, W>, contested: bool, to: u8) {
-    write!(report, "{contested},");
-    if to != GLOBAL_ADDRESS {
-        write!(report, "{to}");
-    }
-}
-
-/// A time and a comma; the comma alone where the line told none.
-pub(crate) fn write_time<W: Write>(report: &mut ReportWriter<'_, W>, time: &Option<Time>) {
-    match time {
-        Some(time) => write!(report, "{time},"),
-        None => report.text(","),
-    }
-}
-
-/// The SPN, the FMI and the count of a code, each with a comma; the count is empty where it is not available, and all are without a
-/// code.
-fn write_code<W: Write>(report: &mut ReportWriter<'_, W>, code: Option<&Dtc>) {
-    let Some(code) = code else {
-        report.text(",,,");
-        return;
-    };
-    let spn = code.spn();
-    let fmi = code.fmi();
-    write!(report, "{spn},{fmi},");
-    write_count(report, code.count());
-}
-
-/// The count of a code and a comma.
-fn write_count<W: Write>(report: &mut ReportWriter<'_, W>, count: u8) {
-    if count != NO_COUNT {
-        write!(report, "{count}");
-    }
-    report.text(",");
-}
-
-/// The bus behind a row, where each is watched; the unit and the code in words, and the NAME again.
-pub(crate) fn write_words<W: Write>(
-    report: &mut ReportWriter<'_, W>,
-    one: &BusWatch,
-    options: &ReportOptions<'_>,
-    who: &Who,
-    code: Option<&Dtc>,
-) {
-    write_bus(report, one);
-    match *who {
-        Who::Named(name) => write_fields(report, options.units, name),
-        Who::Unclaimed { .. } => report.text(",,,,,"),
-    }
-    report.text(",");
-    if let Some(code) = code {
-        write_code_text(report, options.texts, code.spn(), code.fmi());
-    }
-    write_name_hex(report, who);
-}
-
-/// The NAME behind a comma as no spreadsheet takes it for a number, of which that would keep 15 digits.
-fn write_name_hex<W: Write>(report: &mut ReportWriter<'_, W>, who: &Who) {
-    match *who {
-        Who::Named(name) => write!(report, ",0x{name}"),
-        Who::Unclaimed { .. } => report.text(","),
-    }
-}
-
-/// The name of the bus behind a comma, where each is watched.
-fn write_bus<W: Write>(report: &mut ReportWriter<'_, W>, one: &BusWatch) {
-    if let Some(bus) = &one.bus {
-        report.text(",");
-        write_text(report, bus.as_str());
-    }
-}
-
-/// What a NAME says of its unit (SAE J1939-81), and the shop's text for it, each behind a comma.
-fn write_fields<W: Write>(report: &mut ReportWriter<'_, W>, units: &UnitTexts, name: Name) {
-    let fields = name.fields();
-    let (function, instance) = (fields.function, fields.function_instance);
-    let (manufacturer, identity) = (fields.manufacturer, fields.identity);
-    write!(report, ",{function},{instance},{manufacturer},{identity},");
-    if let Some(text) = units.text_of(name) {
-        write_text(report, text);
-    }
-}
-
-/// The shop's text for a code.
-fn write_code_text<W: Write>(report: &mut ReportWriter<'_, W>, texts: &Texts, spn: u32, fmi: u8) {
-    match texts.parts_of(spn, fmi) {
-        Some((text, Some(more))) => write_both(report, text, more),
-        Some((text, None)) => write_text(report, text),
-        None => {}
-    }
-}
-
-/// A text for the SPN and one for the FMI, in quotes.
-fn write_both<W: Write>(report: &mut ReportWriter<'_, W>, text: &str, more: &str) {
+fn write_trouble_words<W: Write>(report: &mut ReportWriter<'_, W>, trouble: Trouble)
+    ensures { WroteSome W.contents report.old report.new }
+{
     report.text("\"");
-    write_guard(report, text);
-    write_quoted(report, text);
-    report.text(", ");
-    write_quoted(report, more);
+    report.words(TroubleWords(trouble));
     report.text("\"");
-}
-
-/// A text from outside, in quotes where it has a comma or a quote. Neither a terminal nor a spreadsheet obeys it: what is hidden
-/// stands by its number, and an apostrophe stands before what begins as a formula.
-pub(crate) fn write_text<W: Write>(report: &mut ReportWriter<'_, W>, text: &str) {
-    if needs_quotes(text) {
-        report.text("\"");
-        write_guard(report, text);
-        write_quoted(report, text);
-        report.text("\"");
-    } else {
-        write_guard(report, text);
-        let seen = Seen::line(text);
-        write!(report, "{seen}");
-    }
-}
-
-/// An apostrophe before a text that begins as a formula does.
-fn write_guard<W: Write>(report: &mut ReportWriter<'_, W>, text: &str) {
-    if begins_a_formula(text) {
-        report.text("'");
-    }
-}
-
-/// Whether a spreadsheet takes a text for a formula.
-fn begins_a_formula(text: &str) -> bool {
-    match text.as_bytes().first() {
-        Some(b'=' | b'+' | b'-' | b'@') => true,
-        _ => false,
-    }
-}
-
-/// Whether a text has a comma or a quote.
-fn needs_quotes(text: &str) -> bool {
-    for byte in text.as_bytes() {
-        match *byte {
-            b',' | b'"' => return true,
-            _ => {}
-        }
-    }
-    false
-}
-
-/// A text in quotes, each of its own twice.
-fn write_quoted<W: Write>(report: &mut ReportWriter<'_, W>, text: &str) {
-    for letter in text.chars() {
-        if letter == '"' {
-            report.text("\"");
-        }
-        let seen = SeenCharacter::line(letter);
-        write!(report, "{seen}");
-    }
 }

@@ -1,6 +1,15 @@
-use bus_watch::{IDENTIFICATIONS, UnitShown, Watch, Who};
+ghost use Rattle.std.specs.Prelude.{◌≡◌, ◌+◌, ◌-◌, ◌≤◌, ◌||◌, List, length, option_map, slice_get};
+ghost use Rattle.bus_model.specs.Heard.{names_heard};
+ghost use Rattle.bus_watch.specs.Runs.{is_of_name, units_shown};
+ghost use Rattle.bus_watch.specs.Told.{Beginning, StandsForAll, Told, all_said, readings_said};
+ghost use Rattle.watch_reports.specs.CsvCells.{kind_cell};
+ghost use Rattle.watch_reports.specs.CsvRows.{runs_said};
+ghost use Rattle.watch_reports.specs.CsvUnits as units;
+
+use bus_watch::{UnitShown, Watch, Who};
 use can_frame::GLOBAL_ADDRESS;
 use dm_messages::Kind;
+use dm_words::Identification;
 use frame_words::{AddressWords, Audience};
 use name_field::Name;
 use safe_text::Seen;
@@ -11,7 +20,9 @@ use std::fmt;
 pub const KINDS: [Kind; 3] = [Kind::Dm1, Kind::Dm2, Kind::Dm6];
 
 /// The word of a kind, in every form.
-pub(crate) fn kind_word(kind: Kind) -> &'static str {
+pub(crate) fn kind_word(kind: Kind) -> &'static str
+    ensures { result.now ≡ kind_cell kind }
+{
     match kind {
         Kind::Dm1 => "dm1",
         Kind::Dm2 => "dm2",
@@ -92,22 +103,6 @@ impl fmt::Display for PlainWho {
     }
 }
 
-/// The same for programs, with its address in decimal alone.
-#[derive(Clone, Copy)]
-pub(crate) struct WhoValue(pub(crate) Who);
-
-impl fmt::Display for WhoValue {
-    fn fmt<W: fmt::Write>(&self, f: &mut fmt::Formatter<W>) -> fmt::Result {
-        match self.0 {
-            Who::Named(name) => write!(f, "{name}"),
-            Who::Unclaimed { address, gaps } => {
-                write!(f, "address {address}, ")?;
-                write_unclaimed(f, address, gaps)
-            }
-        }
-    }
-}
-
 /// That nobody was seen to claim an address, or that no unit can, and since which gap; no gap where there was none.
 fn write_unclaimed<W: fmt::Write>(
     f: &mut fmt::Formatter<W>,
@@ -123,7 +118,9 @@ fn write_unclaimed<W: fmt::Write>(
 }
 
 /// The address of a unit; none where its NAME holds none, or was not heard of.
-pub(crate) fn address_of(watch: &Watch, who: &Who) -> Option<u8> {
+pub(crate) fn address_of(watch: &Watch, who: &Who) -> Option<u8>
+    ensures { (b : Beginning) (ts : List Told) → StandsForAll b ts watch.now → result ≡ units.address_said b ts who.now }
+{
     match *who {
         Who::Named(name) => match watch.row(name) {
             Some(row) => row.address,
@@ -134,32 +131,48 @@ pub(crate) fn address_of(watch: &Watch, who: &Who) -> Option<u8> {
 }
 
 /// Whether a unit has an entry of some kind.
-pub(crate) fn has_entries(watch: &Watch, who: &Who) -> bool {
-    for kind in KINDS {
-        if !watch.runs(*who, kind).is_empty() {
-            return true;
-        }
-    }
-    false
+pub(crate) fn has_entries(watch: &Watch, who: &Who) -> bool
+    ensures { (b : Beginning) (ts : List Told) → StandsForAll b ts watch.now → result ≡ units.has_entries_said b ts who.now }
+{
+    has_some(watch, who, Kind::Dm1)
+        || has_some(watch, who, Kind::Dm2)
+        || has_some(watch, who, Kind::Dm6)
+}
+
+/// Whether a unit has an entry of this kind.
+fn has_some(watch: &Watch, who: &Who, kind: Kind) -> bool
+    ensures { (b : Beginning) (ts : List Told) → StandsForAll b ts watch.now → result ≡ units.are_some (runs_said b ts who.now kind) }
+{
+    !watch.runs(*who, kind).is_empty()
 }
 
 /// Whether a unit has an entry of some kind, or told an identification.
-fn has_told(watch: &Watch, who: &Who) -> bool {
+fn has_told(watch: &Watch, who: &Who) -> bool
+    ensures { (b : Beginning) (ts : List Told) → StandsForAll b ts watch.now → result ≡ units.has_entries_said b ts who.now || units.has_identified_in watch.now who.now }
+{
     has_entries(watch, who) || has_identified(watch, who)
 }
 
 /// Whether a unit told an identification.
-fn has_identified(watch: &Watch, who: &Who) -> bool {
-    for what in IDENTIFICATIONS {
-        if !watch.identification(*who, what).is_empty() {
-            return true;
-        }
-    }
-    false
+fn has_identified(watch: &Watch, who: &Who) -> bool
+    ensures { result ≡ units.has_identified_in watch.now who.now }
+{
+    has_text(watch, who, Identification::Vehicle)
+        || has_text(watch, who, Identification::Component)
+        || has_text(watch, who, Identification::Software)
+        || has_text(watch, who, Identification::Unit)
+}
+
+fn has_text(watch: &Watch, who: &Who, what: Identification) -> bool
+    ensures { result ≡ units.are_some (units.identification_in watch.now who.now what) }
+{
+    !watch.identification(*who, what).is_empty()
 }
 
 /// Whether the row of a unit is shown: it is the unit of which alone it is told, or has or had the address of which it is.
-fn shows_row(watch: &Watch, who: &Who) -> bool {
+fn shows_row(watch: &Watch, who: &Who) -> bool
+    ensures { (b : Beginning) (ts : List Told) → StandsForAll b ts watch.now → result ≡ units.is_row_shown b.selection.unit b ts watch.now who.now }
+{
     let selection = watch.selection();
     match &selection.unit {
         Some(UnitShown::Name(name)) => is_named(name, who),
@@ -170,7 +183,9 @@ fn shows_row(watch: &Watch, who: &Who) -> bool {
     }
 }
 
-fn is_named(name: &Name, who: &Who) -> bool {
+fn is_named(name: &Name, who: &Who) -> bool
+    ensures { result ≡ is_of_name name.now who.now }
+{
     match who {
         Who::Named(own) => *name == *own,
         Who::Unclaimed { .. } => false,
@@ -178,7 +193,9 @@ fn is_named(name: &Name, who: &Who) -> bool {
 }
 
 /// How many places of rows a report has, of which some stay empty.
-pub(crate) fn row_places(watch: &Watch) -> usize {
+pub(crate) fn row_places(watch: &Watch) -> usize
+    ensures { (b : Beginning) (ts : List Told) → StandsForAll b ts watch.now → result ≡ units.places_said b ts watch.now }
+{
     watch
         .names()
         .saturating_add(watch.units())
@@ -186,7 +203,9 @@ pub(crate) fn row_places(watch: &Watch) -> usize {
 }
 
 /// The unit whose row stands at this place, where that is shown.
-pub(crate) fn row_at(watch: &Watch, place: usize) -> Option<Who> {
+pub(crate) fn row_at(watch: &Watch, place: usize) -> Option<Who>
+    ensures { (b : Beginning) (ts : List Told) → StandsForAll b ts watch.now → result ≡ units.shown_at_place b ts watch.now place }
+{
     let who = unit_at(watch, place)?;
     if shows_row(watch, &who) {
         Some(who)
@@ -198,7 +217,9 @@ pub(crate) fn row_at(watch: &Watch, place: usize) -> Option<Who> {
 /// The unit of this place: first all NAMEs, in the order of their first claims, then the addresses that nobody has claimed, in the
 /// order of their first entries, and those that told an identification alone. A place behind the NAMEs where the entry, or the
 /// identification, was one of a NAME stays empty.
-fn unit_at(watch: &Watch, place: usize) -> Option<Who> {
+fn unit_at(watch: &Watch, place: usize) -> Option<Who>
+    ensures { (b : Beginning) (ts : List Told) → StandsForAll b ts watch.now → result ≡ units.placed b ts watch.now place }
+{
     let names = watch.names();
     if place < names {
         return match watch.name_at(place) {
@@ -210,7 +231,9 @@ fn unit_at(watch: &Watch, place: usize) -> Option<Who> {
 }
 
 /// The unit at this place behind the NAMEs, where it is the first that it has there.
-fn unit_behind_names(watch: &Watch, place: usize) -> Option<Who> {
+fn unit_behind_names(watch: &Watch, place: usize) -> Option<Who>
+    ensures { (b : Beginning) (ts : List Told) → StandsForAll b ts watch.now → result ≡ units.placed_behind b ts watch.now place }
+{
     let units = watch.units();
     if place < units {
         return watch.unit_at(place);
@@ -224,7 +247,9 @@ fn unit_behind_names(watch: &Watch, place: usize) -> Option<Who> {
 }
 
 /// A unit that is an address without owner.
-fn unclaimed(who: Option<Who>) -> Option<Who> {
+fn unclaimed(who: Option<Who>) -> Option<Who>
+    ensures { result ≡ units.if_unclaimed who }
+{
     match who {
         Some(Who::Unclaimed { address, gaps }) => Some(Who::Unclaimed { address, gaps }),
         _ => None,

@@ -45,8 +45,8 @@ extern "C" {
 enum {
     HIDZGULA_DONE = 0,
     HIDZGULA_ID_TOO_LARGE = 1,   /* an identifier of 2^29 or more */
-    HIDZGULA_TOO_LONG = 2,       /* more than 8 bytes in a frame */
-    HIDZGULA_NOT_AN_ADDRESS = 7, /* 254 or 255 where an address to hold is asked for */
+    HIDZGULA_TOO_LONG = 2,       /* more than 8 bytes in a frame, or 1,785 in a message */
+    HIDZGULA_NOT_AN_ADDRESS = 7, /* 254 or 255 where an address to hold is asked for; no message of that group and size goes there */
     HIDZGULA_NO_ADDRESS = 22,    /* the station knows no address of that NAME */
     HIDZGULA_NOT_HELD = 23,      /* the station, or the unit, holds no address of its own */
     HIDZGULA_BAD_SETTING = 24,   /* an address above 253, a grant of 0, or a setting of a unit that is out of its range */
@@ -57,6 +57,8 @@ enum {
     HIDZGULA_NO_KIND = 32,       /* a kind that is none of HIDZGULA_DM1, HIDZGULA_DM2, HIDZGULA_DM6 */
     HIDZGULA_OUT_OF_MEMORY = 33, /* memory was refused */
     HIDZGULA_NOT_KEPT = 34,      /* the entry at that place came, and is none of the newest, which are kept */
+    HIDZGULA_NO_ROOM = 44,       /* the array is too short for what is saved */
+    HIDZGULA_NOT_SAVED = 45,     /* a station that took what is saved would show something else */
 
     /* of units alone */
     HIDZGULA_SPN_TOO_LARGE = 9,  /* an SPN above 524,287 */
@@ -66,7 +68,7 @@ enum {
     HIDZGULA_NO_UNIT = 35,       /* the handle is empty: not opened, or closed */
     HIDZGULA_HAS_UNIT = 36,      /* the handle has an open unit */
     HIDZGULA_QUEUE_FULL = 37,    /* as much waits to be written as there is room for; of a live station too */
-    HIDZGULA_SESSION_OPEN = 38,  /* a session of that kind is open */
+    HIDZGULA_SESSION_OPEN = 38,  /* a session of that kind is open; of a live station another message, or a command, is under way */
     HIDZGULA_NOT_PENDING = 39,   /* the code to go away is not pending */
 
     /* of listeners alone */
@@ -74,8 +76,8 @@ enum {
     HIDZGULA_HAS_LISTENER = 41,  /* the handle has an open listener */
 
     /* of live stations alone */
-    HIDZGULA_ORDER_OPEN = 42,    /* another order is open */
-    HIDZGULA_NO_GROUP = 43       /* a parameter group that no order asks for, or by which one does not clear */
+    HIDZGULA_ORDER_OPEN = 42,    /* another order is open; for a command also a broadcast of the program's */
+    HIDZGULA_NO_GROUP = 43       /* a parameter group that no order asks for, by which one does not clear, or which is not shared */
 };
 
 /* The kinds of diagnostic messages, numbered as the messages are; any other number is refused, NO_KIND. */
@@ -111,7 +113,7 @@ typedef struct {
 } hidzgula_frame;
 
 /* What the station answers: where `withdraw` is 1 and not 0, the frames of earlier replies that were not sent yet are not to be
- * sent; then the first `count` of `frames` are to be sent, 0 to 3, in their order. */
+ * sent; then the first `count` of `frames` are to be sent, 0 to 3, in their order. What stands behind those says nothing. */
 typedef struct {
     uint8_t withdraw;
     uint8_t count;
@@ -270,8 +272,8 @@ typedef struct {
 } hidzgula_message;
 
 /* What a live station keeps to; times are in microseconds.
- *  - `gap`: how long it is at least from a frame of a command to the next, 10,000 to 200,000: 50 to 200 ms by SAE J1939-21, 10 to 200 ms by
- *    ISO 11783-3 and later editions (from memory).
+ *  - `gap`: how long it is at least from a frame of a command, or of a broadcast of yours, to the next, 10,000 to 200,000: 50 to 200 ms by SAE
+ *    J1939-21, 10 to 200 ms by ISO 11783-3 and later editions (from memory).
  *  - `settle`: how long it is from the claim of a new address to anything but a claim, up to 1,000,000 (J1939-81: 250,000).
  *  - `keep`: of each list it keeps the newest so many messages, none where it is 0.
  *  - `grant`: how many packets it lets a sender send at once at most, 1 to 255 (J1939-21). */
@@ -540,13 +542,21 @@ HIDZGULA_LAYOUT(offsetof(hidzgula_unit_counts_out, waiting) == 24);
 
 /* Opens a station of this NAME, which holds `address`, 0 to 253, and lets a sender send at most `grant` packets at once, 1 to 255.
  * Of each list, one by NAME and kind, it keeps the newest `keep` messages and counts all; where that is 0 it keeps none, and UINT32_MAX
- * keeps all that a program will see. So what it takes of memory is bounded by the NAMEs and by `keep`.
+ * keeps all that a program will see. So what it takes of memory is bounded by the NAMEs (`hidzgula_make_room`) and by `keep`.
  * It has read nothing. A gateway that sends begins with the frame of `hidzgula_claim`.
  * BAD_SETTING, HAS_STATION, OUT_OF_MEMORY. */
 uint32_t hidzgula_open(hidzgula_station *station, uint64_t name, uint8_t address, uint8_t grant, uint32_t keep);
 
 /* Closes a station and frees all its memory; does nothing where there is none. */
 void hidzgula_close(hidzgula_station *station);
+
+/* Makes room for one more NAME, of which a station is to have `most` at most: called before each frame, it never has more. Where it has as many, it
+ * is begun anew, and `anew` is 1, else 0: it holds its address as before, and knows the NAMEs that hold others, if these are fewer than `most`,
+ * so that no message is listed under another unit. Its lists, counts and other rows, and what is half read, are gone: whoever wants them asks
+ * before. Before `n` frames in a row room is made with `most` less `n` - 1.
+ * BAD_SETTING for `most` 0, NO_STATION; and where it is to be begun anew NOT_HELD while it holds no address, so that it is to be closed, and opened
+ * at another one, or OUT_OF_MEMORY. A frame that is handed over all the same may bring one NAME more. */
+uint32_t hidzgula_make_room(hidzgula_station *station, size_t most, uint8_t *anew);
 
 /* What the next two call, with a `change` that is not NULL: for programs that bind the archive's names without this header. */
 uint32_t hidzgula_take_frame_telling(
@@ -650,6 +660,27 @@ uint32_t hidzgula_code(hidzgula_station *station, uint64_t name, uint8_t kind, u
  * NO_STATION. */
 uint32_t hidzgula_counts(hidzgula_station *station, uint64_t *missed, uint64_t *unread);
 
+/* Saves what the station knows, for a program that is started again: `count` is how many frames that is, and so many of `frames`, of which there are
+ * `room`, are they; `hidzgula_restore` takes them. With a `room` of 0 it says how many there are.
+ * NO_STATION, NOT_HELD, OUT_OF_MEMORY, NOT_SAVED, NO_ROOM, and then `count` is written, and nothing else. */
+uint32_t hidzgula_save(hidzgula_station *station, hidzgula_frame *frames, size_t room, size_t *count);
+
+/* Hands frames that were saved to a station that was just opened, under the same NAME, at the address that the one which was saved held, and with the
+ * same `keep`; and then a gap. It shows the same NAMEs in the same order, their last acknowledgments, and the messages that were kept of each list. No
+ * address has an owner until NAMEs claim again, so that no message is put under a wrong one. Places in lists and counts begin anew, with one frame
+ * missed. The station's claim is to be sent then, and a request for the claims of all, as behind each gap: `hidzgula_claim`, `hidzgula_ask_all`.
+ * ID_TOO_LARGE, TOO_LONG, NO_STATION, OUT_OF_MEMORY. Refused, it has part of what was saved: it is to be closed. */
+static inline uint32_t hidzgula_restore(hidzgula_station *station, const hidzgula_frame *frames, size_t count)
+{
+    hidzgula_reply reply;
+    hidzgula_change change;
+    for (size_t i = 0, taken; i < count; i++) {
+        uint32_t status = hidzgula_take_frames(station, frames + i, 1, &change, 1, &reply, &taken);
+        if (status != HIDZGULA_DONE) return status;
+    }
+    return hidzgula_take_gap_telling(station, 1, &reply, &change);
+}
+
 /* ---- A listener
  *
  * It hears the messages between any two addresses, sends nothing and has no place on the bus: no NAME, no address. It lists each message under
@@ -664,6 +695,12 @@ uint32_t hidzgula_listener_open(hidzgula_listener *listener, uint32_t keep);
 
 /* Closes a listener and frees all its memory; does nothing where there is none. */
 void hidzgula_listener_close(hidzgula_listener *listener);
+
+/* Makes room for one more NAME and one more unit that has lists, of which a listener is to have `most` at most, as `hidzgula_make_room`. One that is
+ * begun anew knows the NAMEs that hold addresses, if these are fewer than `most`; its other rows, all lists and counts, and messages under
+ * way, are gone. It numbers the gaps on, with one more, and the messages that break, so that a `hidzgula_who` stands for one unit.
+ * BAD_SETTING for `most` 0, NO_LISTENER, OUT_OF_MEMORY. */
+uint32_t hidzgula_listener_make_room(hidzgula_listener *listener, size_t most, uint8_t *anew);
 
 /* The listener takes a frame that was read of the bus at `now`: its 29-bit identifier, and `length` bytes. Frames with 11-bit identifiers,
  * remote frames and error frames are not handed over. `heard` is what the frame changed.
@@ -822,6 +859,13 @@ uint32_t hidzgula_live_open(hidzgula_live *live, uint64_t name, uint8_t address,
 /* Closes a live station and frees all its memory; an order that is open gets no verdict. Does nothing where there is none. */
 void hidzgula_live_close(hidzgula_live *live);
 
+/* Makes room for one more NAME, as `hidzgula_make_room`, while no order is open. A station that is begun anew is as one that was opened at its address
+ * and heard the claims of the NAMEs that hold others: so it claims again, and asks all for their claims. What waits is let go; the newest
+ * verdict and the groups that the program shares stay. Its own frames that come back behind that are a STRANGER's, but for claims.
+ * BAD_SETTING for `most` 0, NO_STATION; and where it is to be begun anew ORDER_OPEN while an order is open (`hidzgula_live_end`), NOT_HELD while it
+ * holds no address, OUT_OF_MEMORY. */
+uint32_t hidzgula_live_make_room(hidzgula_live *live, size_t most, uint8_t *anew);
+
 /* The station hears a frame that was read of the bus: its 29-bit identifier, and `length` bytes. It does what it owes for it, lists the message that
  * ends with it, and looks at it for the open order. `change` is what the frame changed; of a frame of its own, NOTHING or STRANGER.
  * ID_TOO_LARGE, TOO_LONG, NO_STATION, QUEUE_FULL where as much waits as there is room for and the frame is a request or one of a session,
@@ -834,6 +878,26 @@ uint32_t hidzgula_live_hear(
  * how many.
  * NO_STATION, QUEUE_FULL, OUT_OF_MEMORY. */
 uint32_t hidzgula_live_missed(hidzgula_live *live, uint32_t count, uint64_t now, hidzgula_change *change);
+
+/* Saves what the station knows, as `hidzgula_save` does. The order that is open, what came of the newest one, and groups that a program shares are not
+ * saved.
+ * NO_STATION, NOT_HELD, OUT_OF_MEMORY, NOT_SAVED, NO_ROOM, and then `count` is written, and nothing else. */
+uint32_t hidzgula_live_save(hidzgula_live *live, hidzgula_frame *frames, size_t room, size_t *count);
+
+/* Hands frames that were saved to a live station that was just opened, as `hidzgula_restore` does. Its claim and the request for the claims of all
+ * wait, as when it was opened.
+ * ID_TOO_LARGE, TOO_LONG, NO_STATION, QUEUE_FULL, OUT_OF_MEMORY. Refused, it has part of what was saved: it is to be closed. */
+static inline uint32_t hidzgula_live_restore(hidzgula_live *live, const hidzgula_frame *frames, size_t count, uint64_t now)
+{
+    hidzgula_change change;
+    for (size_t i = 0; i < count; i++) {
+        if (frames[i].id >> 29 != 0) return HIDZGULA_ID_TOO_LARGE;
+        if (frames[i].length > 8) return HIDZGULA_TOO_LONG;
+        uint32_t status = hidzgula_live_hear(live, frames[i].id, frames[i].bytes, frames[i].length, now, &change);
+        if (status != HIDZGULA_DONE) return status;
+    }
+    return hidzgula_live_missed(live, 1, now, &change);
+}
 
 /* One thing that goes now. `has` is 1 and `frame` is it where it is a frame, to be written at once; where the open order goes on or ends without
  * one, or nothing goes, `has` is 0, and `frame` is as it was: then `hidzgula_live_when` says whether more goes now. Claims go first, then, once the
@@ -861,7 +925,7 @@ uint32_t hidzgula_live_ask_all(hidzgula_live *live, uint32_t pgn);
 uint32_t hidzgula_live_clear(hidzgula_live *live, uint64_t name, uint32_t pgn);
 
 /* Commands the unit of a NAME to hold an address, 0 to 253.
- * NO_STATION, ORDER_OPEN, NOT_AN_ADDRESS. */
+ * NO_STATION, ORDER_OPEN also while a broadcast of the program's is under way, NOT_AN_ADDRESS. */
 uint32_t hidzgula_live_command(hidzgula_live *live, uint64_t name, uint8_t address);
 
 /* Ends the open order, if one is open: its verdict is CUT_OFF; or, where what a clear left is being asked, what the clear came to, with CUT_OFF
@@ -886,10 +950,12 @@ uint32_t hidzgula_live_verdict(hidzgula_live *live, hidzgula_verdict *verdict);
  *     if (!withheld) hidzgula_live_hear(&live, frame.id, frame.bytes, frame.length, now(), &change);
  *     if (whole) hidzgula_live_shared_message(&live, &message);
  *     ..
+ *     hidzgula_live_shared_send(&live, 255, 61184, bytes, length);        a message of the program's own
+ *     ..
  *     while (hidzgula_live_shared_next(&live, now(), &frame, &has) == HIDZGULA_DONE && has) write_frame(&frame);
  *
  * Where `hidzgula_live_hear` refuses a frame, that call alone is made again. A message is dropped half joined where its address is claimed by another
- * NAME or frames were missed, and one to the station where that moves. */
+ * NAME or frames were missed, and one to the station where that moves. `hidzgula_live_row_of` tells the address of a NAME. */
 
 /* Shares a group from now on. Groups of the protocol and of diagnostics are the station's: 59392, 59904, 60160, 60416, 60928, 65226 to 65228, 65231,
  * 65235, 65240.
@@ -899,6 +965,31 @@ uint32_t hidzgula_live_share(hidzgula_live *live, uint32_t pgn);
 /* Asks the unit at an address, or all (255), for a group that is shared. The request waits for `hidzgula_live_shared_next`.
  * PGN_TOO_LARGE, NO_STATION, NO_GROUP where it is not shared, NOT_HELD, QUEUE_FULL where 64 frames wait. */
 uint32_t hidzgula_live_shared_ask(hidzgula_live *live, uint8_t to, uint32_t pgn);
+
+/* What came of the newest message that was given to be sent. */
+enum {
+    HIDZGULA_SEND_NONE = 0,            /* none was */
+    HIDZGULA_SEND_OPEN = 1,            /* it is under way */
+    HIDZGULA_SEND_WRITTEN = 2,         /* its one frame, or all of a broadcast, was written */
+    HIDZGULA_SEND_ACKNOWLEDGED = 3,    /* its receiver acknowledged all of it */
+    HIDZGULA_SEND_ABORTED = 4,         /* its receiver aborted it, for `reason` */
+    HIDZGULA_SEND_SILENT = 5,          /* its receiver said nothing in time: it was aborted, for reason 3 */
+    HIDZGULA_SEND_ASKED_TOO_OFTEN = 6, /* its receiver asked for the same packet a third time: it was aborted, for reason 5 */
+    HIDZGULA_SEND_CUT_OFF = 7          /* another NAME claimed the address that it goes to, or the station left its own */
+};
+
+/* Gives a message of a group that is shared to be sent, of 0 to 1,785 bytes, to an address or to all (255); `hidzgula_live_shared_next` gives its
+ * frames. Up to eight bytes go in one frame, of priority 6; more to all by a broadcast, whose packets keep the gap of the settings, or to an
+ * address by a session: its receiver is waited for 1,250 ms, or 1,050 ms while it holds the session open, and a packet goes again twice
+ * at most. One goes at a time.
+ * PGN_TOO_LARGE, NO_STATION, NO_GROUP where it is not shared, or is 2^18 or more, or PDU1 with a low byte that is not 0, NOT_HELD, TOO_LONG,
+ * NOT_AN_ADDRESS for 254, for the station's own and for an address where a PDU2 group has up to eight bytes, SESSION_OPEN while another is under
+ * way, and, for a broadcast, while a command is, OUT_OF_MEMORY. */
+uint32_t hidzgula_live_shared_send(hidzgula_live *live, uint8_t to, uint32_t pgn, const uint8_t *bytes, size_t length);
+
+/* What came of the newest one; `reason` is 0 but where its receiver aborted it.
+ * NO_STATION. */
+uint32_t hidzgula_live_shared_sent(hidzgula_live *live, uint8_t *what, uint8_t *reason);
 
 /* Hears a frame of the bus, before the station does. `withheld` is 1 where it is the program's alone: the station is then not to hear it. `whole` is 1
  * where a message is whole with it.
@@ -924,6 +1015,11 @@ uint32_t hidzgula_live_held(hidzgula_live *live, uint8_t *has, uint8_t *address)
 uint32_t hidzgula_live_counts(hidzgula_live *live, uint64_t *missed, uint64_t *unread);
 uint32_t hidzgula_live_rows(hidzgula_live *live, size_t *count);
 uint32_t hidzgula_live_row(hidzgula_live *live, size_t place, hidzgula_row_out *row);
+
+/* The row of a NAME.
+ * NO_STATION, NO_PLACE where no claim of it was heard. */
+uint32_t hidzgula_live_row_of(hidzgula_live *live, uint64_t name, hidzgula_row_out *row);
+
 uint32_t hidzgula_live_entries(hidzgula_live *live, uint64_t name, uint8_t kind, uint64_t *count);
 uint32_t hidzgula_live_entry(hidzgula_live *live, uint64_t name, uint8_t kind, uint64_t place, hidzgula_entry_out *entry);
 uint32_t hidzgula_live_code(hidzgula_live *live, uint64_t name, uint8_t kind, uint64_t entry, size_t place, hidzgula_code_out *code);

@@ -21,7 +21,7 @@ static struct written {
     hidzgula_message message;
     size_t count;
     uint64_t at, entries, missed, unread;
-    uint8_t has, address, withheld, whole;
+    uint8_t has, address, withheld, whole, what, reason;
 } out, before;
 
 static void fill(void)
@@ -59,9 +59,13 @@ static void on_empty(const char *when)
     is(when, hidzgula_live_shared_next(&live, now, &out.frame, &out.has), HIDZGULA_NO_STATION);
     is(when, hidzgula_live_shared_when(&live, now, &out.at), HIDZGULA_NO_STATION);
     is(when, hidzgula_live_shared_message(&live, &out.message), HIDZGULA_NO_STATION);
+    is(when, hidzgula_live_shared_send(&live, 7, VIN, bytes, 9), HIDZGULA_NO_STATION);
+    is(when, hidzgula_live_shared_sent(&live, &out.what, &out.reason), HIDZGULA_NO_STATION);
+    is(when, hidzgula_live_row_of(&live, NAME, &out.row), HIDZGULA_NO_STATION);
     /* what is wrong with the arguments is told first */
     is(when, hidzgula_live_share(&live, 1u << 24), HIDZGULA_PGN_TOO_LARGE);
     is(when, hidzgula_live_shared_ask(&live, 0, UINT32_MAX), HIDZGULA_PGN_TOO_LARGE);
+    is(when, hidzgula_live_shared_send(&live, 254, 1u << 24, bytes, 9), HIDZGULA_PGN_TOO_LARGE);
     is(when, hidzgula_live_shared_hear(&live, 1u << 29, bytes, 9, &out.withheld, &out.whole), HIDZGULA_ID_TOO_LARGE);
     is(when, hidzgula_live_shared_hear(&live, 0, bytes, 9, &out.withheld, &out.whole), HIDZGULA_TOO_LONG);
     is(when, hidzgula_live_hear(&live, 1u << 29, bytes, 9, now, &out.change), HIDZGULA_ID_TOO_LARGE);
@@ -114,6 +118,8 @@ static void refused_by_arguments(void)
         is("a group of the station's", hidzgula_live_share(&live, diagnostic[i]), HIDZGULA_NO_GROUP);
     is("no message", hidzgula_live_shared_message(&live, &out.message), HIDZGULA_NO_PLACE);
     is("a group that is not shared", hidzgula_live_shared_ask(&live, 0, VIN), HIDZGULA_NO_GROUP);
+    is("nor sent", hidzgula_live_shared_send(&live, 0, VIN, bytes, 9), HIDZGULA_NO_GROUP);
+    is("no row of that NAME", hidzgula_live_row_of(&live, NAME, &out.row), HIDZGULA_NO_PLACE);
     is("kind 0", hidzgula_live_entry(&live, NAME, 0, 0, &out.entry), HIDZGULA_NO_KIND);
     is("kind 255", hidzgula_live_code(&live, NAME, 255, 0, 0, &out.code), HIDZGULA_NO_KIND);
     nothing_written("what was refused writes nothing");
@@ -168,6 +174,38 @@ static void heard_by_vin_unit(const hidzgula_frame *frame)
     }
 }
 
+/* a unit at 7 that takes messages: it grants two packets at once, asks for one that is missing once, and acknowledges the end */
+static uint8_t taken[1785];
+static unsigned taken_size, taken_next, granted_to;
+static bool has_receiver, holds_open;
+
+static void grants(void)
+{
+    unsigned all = (taken_size + 6) / 7, last = taken_next + 1 < all ? taken_next + 1 : all;
+    if (taken_next > all) {
+        goes(0x1CECF907, 0x13, (uint8_t)taken_size, (uint8_t)(taken_size >> 8), (uint8_t)all, 255, VIN & 0xFF, VIN >> 8, 0);
+        return;
+    }
+    granted_to = last;
+    goes(0x1CECF907, 0x11, (uint8_t)(last - taken_next + 1), (uint8_t)taken_next, 255, 255, VIN & 0xFF, VIN >> 8, 0);
+}
+
+static void heard_by_receiver(const hidzgula_frame *frame)
+{
+    if (frame->id == 0x1CEC07F9 && frame->bytes[0] == 0x10) {
+        taken_size = frame->bytes[1] + 256u * frame->bytes[2];
+        taken_next = 1;
+        if (holds_open) goes(0x1CECF907, 0x11, 0, 255, 255, 255, VIN & 0xFF, VIN >> 8, 0);
+        else grants();
+    }
+    if (frame->id != 0x1CEB07F9) return;
+    if (frame->bytes[0] == taken_next) {
+        for (unsigned i = 0; i < 7 && 7 * (taken_next - 1) + i < sizeof taken; i++) taken[7 * (taken_next - 1) + i] = frame->bytes[1 + i];
+        taken_next++;
+    }
+    if (frame->bytes[0] == granted_to) grants();
+}
+
 static void carry(const hidzgula_frame *frame)
 {
     size_t at = strlen(written);
@@ -180,6 +218,7 @@ static void carry(const hidzgula_frame *frame)
     }
     heard_by_station(frame);
     if (has_vin_unit) heard_by_vin_unit(frame);
+    if (has_receiver) heard_by_receiver(frame);
     if (unit.at && !unit_is_deaf) is("the unit hears", hidzgula_unit_hear(&unit, frame->id, frame->bytes, frame->length, now), HIDZGULA_DONE);
 }
 
@@ -363,8 +402,8 @@ static void is_not_answered(void)
     is("asks", hidzgula_live_ask(&live, NAME, HIDZGULA_PGN_DM2), HIDZGULA_DONE);
     lost_id = 0x1CEBF900;
     seconds(30);
-    told("a packet was lost, and it was asked again", HIDZGULA_ANSWERED);
-    is("twice", out.verdict.tries, 2);
+    told("a packet was lost, and came again", HIDZGULA_ANSWERED);
+    is("it was asked once", out.verdict.tries, 1);
     newest_has("40 codes", HIDZGULA_DM2, 40);
     is("asks", hidzgula_live_ask(&live, NAME, HIDZGULA_PGN_DM1), HIDZGULA_DONE);
     is("ends", hidzgula_live_end(&live, now), HIDZGULA_DONE);
@@ -466,6 +505,114 @@ static void shares(uint8_t grant, bool is_shared)
     ended();
 }
 
+/* what came of the message that was given */
+static void came(const char *what, unsigned wanted, unsigned reason)
+{
+    fill();
+    is(what, hidzgula_live_shared_sent(&live, &out.what, &out.reason), HIDZGULA_DONE);
+    is(what, out.what * 256u + out.reason, wanted * 256u + reason);
+}
+
+/* a message is given, and so many seconds go */
+static void sends(const char *what, uint8_t to, uint32_t pgn, const uint8_t *payload, size_t length, unsigned count)
+{
+    is(what, hidzgula_live_shared_send(&live, to, pgn, payload, length), HIDZGULA_DONE);
+    came(what, HIDZGULA_SEND_OPEN, 0);
+    is("one goes at a time", hidzgula_live_shared_send(&live, to, pgn, payload, length), HIDZGULA_SESSION_OPEN);
+    written[0] = 0;
+    seconds(count);
+}
+
+/* messages of a shared group: in one frame, by a broadcast, and by a session whose packets are lost, held, given up and cut off */
+static void tells(void)
+{
+    static uint8_t payload[1786];
+    for (size_t i = 0; i < sizeof payload; i++) payload[i] = (uint8_t)(3 * i + 1);
+    is_sharing = true;
+    begun(255, 0, 0);
+    is("shares", hidzgula_live_share(&live, VIN), HIDZGULA_DONE);
+    goes(0x18EEFF07, 0xA1, 0, 0, 0, 0, 0, 0, 0);
+    seconds(1);
+    is("shares another", hidzgula_live_share(&live, 61184), HIDZGULA_DONE);
+    is("shares one that no identifier carries", hidzgula_live_share(&live, 1u << 18), HIDZGULA_DONE);
+    came("nothing yet", HIDZGULA_SEND_NONE, 0);
+    is("it knows the address of a NAME", hidzgula_live_row_of(&live, 0xA1, &out.row), HIDZGULA_DONE);
+    is("7", out.row.has_address * 256u + out.row.address, 256 + 7);
+    is("of that NAME", out.row.name, 0xA1);
+    is("too long", hidzgula_live_shared_send(&live, 7, VIN, payload, 1786), HIDZGULA_TOO_LONG);
+    is("to nobody", hidzgula_live_shared_send(&live, 254, VIN, payload, 9), HIDZGULA_NOT_AN_ADDRESS);
+    is("to itself", hidzgula_live_shared_send(&live, OWN, VIN, payload, 9), HIDZGULA_NOT_AN_ADDRESS);
+    is("one frame of a group that goes to all", hidzgula_live_shared_send(&live, 7, VIN, payload, 8), HIDZGULA_NOT_AN_ADDRESS);
+    is("one that no identifier carries", hidzgula_live_shared_send(&live, 255, 1u << 18, payload, 9), HIDZGULA_NO_GROUP);
+
+    sends("one frame to one", 7, 61184, payload, 2, 1);
+    is("it went", (unsigned long)strcmp(written, "18EF07F9#0104\n"), 0);
+    came("it was written", HIDZGULA_SEND_WRITTEN, 0);
+    sends("one frame to all", 255, VIN, payload, 8, 1);
+    is("it went", (unsigned long)strcmp(written, "18FEECF9#0104070A0D101316\n"), 0);
+    sends("no bytes", 255, 61184, payload, 0, 1);
+    is("they went", (unsigned long)strcmp(written, "18EFFFF9#\n"), 0);
+    sends("a broadcast", 255, VIN, payload, 9, 1);
+    is("it went", (unsigned long)strcmp(written, "1CECFFF9#20090002FFECFE00\n1CEBFFF9#010104070A0D1013\n1CEBFFF9#021619FFFFFFFFFF\n"), 0);
+    came("it was written", HIDZGULA_SEND_WRITTEN, 0);
+
+    has_receiver = true;
+    lost_id = 0x1CEB07F9;
+    sends("a session", 7, VIN, payload, 1785, 4);
+    came("it was acknowledged", HIDZGULA_SEND_ACKNOWLEDGED, 0);
+    is("all of it", (unsigned long)memcmp(taken, payload, 1785), 0);
+    is("and not aborted", went("1CEC07F9#FF"), 0);
+    holds_open = true;
+    sends("one that is held open", 7, VIN, payload, 30, 1);
+    came("it waits", HIDZGULA_SEND_OPEN, 0);
+    run(now + 50000);
+    came("for 1,050 ms", HIDZGULA_SEND_OPEN, 0);
+    run(now + 1);
+    came("and no longer", HIDZGULA_SEND_SILENT, 0);
+    is("it is aborted", went("1CEC07F9#FF03FFFFFFECFE00\n"), 1);
+    holds_open = has_receiver = false;
+
+    is("nobody is there", hidzgula_live_shared_send(&live, 7, VIN, payload, 30), HIDZGULA_DONE);
+    run(now + 1250000);
+    came("it is waited for", HIDZGULA_SEND_OPEN, 0);
+    run(now + 1);
+    came("for 1,250 ms", HIDZGULA_SEND_SILENT, 0);
+
+    is("it is refused", hidzgula_live_shared_send(&live, 7, VIN, payload, 30), HIDZGULA_DONE);
+    run(now + 1000);
+    goes(0x1CECF908, 0xFF, 1, 255, 255, 255, VIN & 0xFF, VIN >> 8, 0);
+    run(now + 1000);
+    came("another address says nothing", HIDZGULA_SEND_OPEN, 0);
+    goes(0x1CECF907, 0xFF, 1, 255, 255, 255, VIN & 0xFF, VIN >> 8, 0);
+    run(now + 1000);
+    came("by its receiver", HIDZGULA_SEND_ABORTED, 1);
+
+    is("a packet is asked for again", hidzgula_live_shared_send(&live, 7, VIN, payload, 30), HIDZGULA_DONE);
+    for (unsigned i = 0; i < 3; i++) {
+        run(now + 1000);
+        goes(0x1CECF907, 0x11, 1, 1, 255, 255, VIN & 0xFF, VIN >> 8, 0);
+        run(now + 1000);
+        came("twice at most", HIDZGULA_SEND_OPEN, 0);
+    }
+    goes(0x1CECF907, 0x11, 1, 1, 255, 255, VIN & 0xFF, VIN >> 8, 0);
+    run(now + 1000);
+    came("it was asked for a third time", HIDZGULA_SEND_ASKED_TOO_OFTEN, 0);
+    is("so it is aborted", went("1CEC07F9#FF05FFFFFFECFE00\n"), 1);
+
+    is("its address goes to another", hidzgula_live_shared_send(&live, 7, VIN, payload, 30), HIDZGULA_DONE);
+    run(now + 1000);
+    goes(0x18EEFF07, 0xA1, 0, 0, 0, 0, 0, 0, 0);
+    run(now + 1000);
+    came("the same NAME may claim it", HIDZGULA_SEND_OPEN, 0);
+    goes(0x18EEFF07, 0xA2, 0, 0, 0, 0, 0, 0, 0);
+    run(now + 1000);
+    came("another one ends it", HIDZGULA_SEND_CUT_OFF, 0);
+    run(now + 2 * SECOND);
+    came("for good", HIDZGULA_SEND_CUT_OFF, 0);
+    is_sharing = false;
+    ended();
+}
+
 int main(void)
 {
     on_empty("empty");
@@ -493,6 +640,7 @@ int main(void)
     shares(255, true);
     shares(1, true);
     shares(255, false);
+    tells();
     on_empty("closed");
     return sums();
 }

@@ -105,7 +105,7 @@ static void fields(void)
     static const uint8_t request[3] = { 0x00, 0xEE, 0x00 };
     is("a claim", hidzgula_take_frame(&station, 0x18EEFF07, bytes, 8, &out.reply, &out.change), HIDZGULA_DONE);
     is("is not answered", out.reply.count, 0);
-    is("and nothing stands there", behind(&out.reply), 0);
+    is("and no place of a frame is written", out.reply.frames[0].id, 0xA5A5A5A5);
     is("row 0", hidzgula_row(&station, 0, &out.row), HIDZGULA_DONE);
     is("without acknowledgment", out.row.has_ack | out.row.ack_control | out.row.ack_pgn, 0);
     is("no bytes", hidzgula_take_frame(&station, 0x18FECA07, bytes, 0, &out.reply, &out.change), HIDZGULA_DONE);

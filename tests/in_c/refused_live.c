@@ -122,11 +122,14 @@ static uint32_t ordered(hidzgula_live *live, uint32_t which, uint32_t more)
     return hidzgula_live_command(live, name, (uint8_t)more);
 }
 
+static const uint8_t payload[100];
+
 static uint32_t done(hidzgula_live *live, uint32_t what, uint32_t which, uint32_t more, uint64_t now, struct told *told)
 {
     uint32_t answer;
     counts = true;
-    if (what < 55) answer = hear(live, which, more, now, &told->change);
+    if (what < 5) answer = hidzgula_live_shared_send(live, (uint8_t)(which % UNITS), VIN, payload, more);
+    else if (what < 55) answer = hear(live, which, more, now, &told->change);
     else if (what < 60) answer = ordered(live, which, more);
     else if (what == 60 && more < 10) answer = hidzgula_live_missed(live, more, now, &told->change);
     else answer = more % 2 ? hidzgula_live_next(live, now, &told->frame, &told->has) : hidzgula_live_shared_next(live, now, &told->frame, &told->has);
@@ -152,6 +155,8 @@ static uint64_t told_by(hidzgula_live *live, uint64_t now)
     add(hidzgula_live_shared_when(live, now, &at));
     add(at);
     add(hidzgula_live_shared_message(live, &message));
+    add(hidzgula_live_shared_sent(live, &has, &address));
+    add(has * 256u + address);
     add(message.name ^ (message.size * 256u + message.bytes[1]));
     add(hidzgula_live_held(live, &has, &address));
     add(has * 256u + address);
@@ -164,6 +169,7 @@ static uint64_t told_by(hidzgula_live *live, uint64_t now)
     for (size_t i = 0; i < rows; i++) {
         hidzgula_row_out row = { 0, 0, 0, 0, 0, 0 };
         add(hidzgula_live_row(live, i, &row));
+        add(hidzgula_live_row_of(live, row.name, &row));
         add(row.name ^ ((row.has_address * 256u + row.address) * 65536u + row.has_ack * 256u + row.ack_control));
         for (size_t j = 0; j < 3; j++) {
             uint64_t entries = 0;

@@ -113,6 +113,13 @@ static void *miss(void *unused)
     return unused;
 }
 
+static void *begin_anew(void *unused)
+{
+    uint8_t anew;
+    hidzgula_make_room(&station, 1, &anew);
+    return unused;
+}
+
 static void *close_it(void *unused)
 {
     hidzgula_close(&station);
@@ -236,6 +243,14 @@ static void *ask_live(void *unused)
     return unused;
 }
 
+static void *begin_live_anew(void *unused)
+{
+    uint8_t anew;
+    hidzgula_live_end(&tester, now);
+    hidzgula_live_make_room(&tester, 1, &anew);
+    return unused;
+}
+
 static void *close_live(void *unused)
 {
     hidzgula_live_close(&tester);
@@ -265,9 +280,9 @@ int main(int argc, char **argv)
         const char *name;
         void *(*work)(void *);
     } works[] = { { "open", open_one }, { "take_frame", take_all }, { "queries", ask_for_lists }, { "orders", order }, { "take_gap", miss },
-        { "take_frames", take_rows }, { "read_log", read_lines }, { "close", close_it }, { "unit_open", open_unit }, { "unit_set, heal, lamps", fill_memory },
+        { "take_frames", take_rows }, { "read_log", read_lines }, { "make_room", begin_anew }, { "close", close_it }, { "unit_open", open_unit }, { "unit_set, heal, lamps", fill_memory },
         { "unit_next", ask_for_frames }, { "unit_begin", begin_all }, { "unit_hear and next", hear_all }, { "unit queries", ask_unit }, { "unit_close", close_unit },
-        { "live_open", open_live }, { "live_hear, next and orders", live_hears_all }, { "live queries", ask_live }, { "live_close", close_live } };
+        { "live_open", open_live }, { "live_hear, next and orders", live_hears_all }, { "live queries", ask_live }, { "live_end, make_room", begin_live_anew }, { "live_close", close_live } };
     if (argc > 1) keep = (uint32_t)strtoul(argv[1], NULL, 10);
     read_frames();
     size_t base = stack_of(nothing);

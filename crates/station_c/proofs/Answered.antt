@@ -4,7 +4,7 @@ use Rattle.station_table.specs.declared.error.StationError.{StationError}
 use Rattle.station_table.specs.declared.error.StationError.TheVariants as station
 use Rattle.station_c.specs.Statuses.{status_number, status_of_station}
 use Rattle.station_c.specs.declared.status.Status.{Status}
-use Rattle.station_c.specs.declared.status.Status.TheVariants.{Done, IdTooLarge, TooLong, NotAnAddress, NoAddress, NotHeld, BadSetting, PgnTooLarge, NoStation, HasStation, NoPlace, NoKind, OutOfMemory, NotKept, SpnTooLarge, FmiTooLarge, MemoryFull, NotActive, NoUnit, HasUnit, QueueFull, SessionOpen, NotPending, NoListener, HasListener, OrderOpen, NoGroup}
+use Rattle.station_c.specs.declared.status.Status.TheVariants.{Done, IdTooLarge, TooLong, NotAnAddress, NoAddress, NotHeld, BadSetting, PgnTooLarge, NoStation, HasStation, NoPlace, NoKind, OutOfMemory, NotKept, SpnTooLarge, FmiTooLarge, MemoryFull, NotActive, NoUnit, HasUnit, QueueFull, SessionOpen, NotPending, NoListener, HasListener, OrderOpen, NoGroup, NoRoom, NotSaved}
 
 pub refusal_is_not_done : (e : StationError) → status_of_station e ≡ Done → ⊥
 refusal_is_not_done station.OutOfMemory h = cc
@@ -47,3 +47,5 @@ done_by_number NoListener h = absurd cc
 done_by_number HasListener h = absurd cc
 done_by_number OrderOpen h = absurd cc
 done_by_number NoGroup h = absurd cc
+done_by_number NoRoom h = absurd cc
+done_by_number NotSaved h = absurd cc

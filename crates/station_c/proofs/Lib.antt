@@ -1,4 +1,8 @@
 pub mod Answered
+pub mod Begun
+pub mod BegunListening
+pub mod BegunLive
+pub mod Claims
 pub mod HandleValues
 pub mod Keeping
 pub mod LineLemmas
@@ -13,3 +17,7 @@ pub mod Hearing
 pub mod Commanded
 pub mod LiveHandleValues
 pub mod LiveKeeping
+pub mod Unlisted
+pub mod Restores
+pub mod RestoresLive
+pub mod Asked

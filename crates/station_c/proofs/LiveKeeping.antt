@@ -1,14 +1,15 @@
 -- A live station stands for what it was told, and keeps the newest entries of that, through each call.
 use Rattle.std.proofs.Common.{◌≡◌, ℕ, Bool, true, false, List, [], ◌∷◌, Option, Some, None, if◌then◌else◌, sym, ap, ◌∙◌, subst}
-use Rattle.bus_model.specs.Heard.{StationSettings, claimer_heard}
+use Rattle.bus_model.specs.Heard.{StationSettings}
 use Rattle.can_frame.specs.FrameValue.{FrameValue}
 use Rattle.can_frame.specs.declared.reading.Reading.{Reading}
 use Rattle.can_frame.specs.declared.reading.Reading.TheVariants.{Frame, Gap}
 use Rattle.entry_lists.specs.Entries.{HasPut}
 use Rattle.entry_lists.specs.Newest.{HasNewest, KeepsNewest, NewestLists}
 use Rattle.entry_lists.specs.declared.entry.NewEntry.{NewEntry}
-use Rattle.live_station.specs.Ear.{entry_of_told, frames_told, is_own}
-use Rattle.live_station.specs.Working.{DoesDeed, DoesTurn, WorkingValue, turn_at}
+use Rattle.live_station.specs.Ear.{entry_of_told, frames_told, is_untold_after}
+use Rattle.live_station.specs.Working.{AsksAgain, DoesDeed, DoesTurn, WorkingValue, turn_at}
+use Rattle.live_station.specs.declared.loss.Watch.{Watch}
 use Rattle.live_station.specs.declared.open.OpenOrder.{OpenOrder}
 use Rattle.live_station.specs.declared.pulled.Pulled.{Pulled}
 use Rattle.live_station.specs.declared.turn.Deed.{Deed}
@@ -19,7 +20,9 @@ use Rattle.live_station.specs.declared.verdict.Verdict.{Verdict}
 use Rattle.shared_groups.specs.Sharing.{SharedValue}
 use Rattle.station_table.specs.Listing.{entry_heard, lists_heard}
 use Rattle.station_table.specs.StandsFor.{StandsFor}
+use Rattle.station_table.specs.Sessions.{session_of}
 use Rattle.station_table.specs.StationValue.{StationValue}
+use Rattle.station_table.specs.declared.session.Session.{Session}
 use Rattle.station_c.specs.ListedLives.{ListedLiveValue, StandsLive}
 use Rattle.station_c.proofs.Keeping.{keeps_after}
 
@@ -28,12 +31,12 @@ keep_put : (before after : NewestLists) (e : Option NewEntry) → HasPut HasNewe
 keep_put before after None put = ap (λ (l : NewestLists). l.keep) put
 keep_put before after (Some e) put = put.keep
 
--- of a frame that is its own nothing is told and nothing listed
-told_or_own : (own : Bool) (before after : NewestLists) (r : StationSettings) (f : FrameValue) (told : List Reading)
-    → HasPut HasNewest before (if own then None else entry_heard r (Frame f) told) after
-    → KeepsNewest before (lists_heard r told) → KeepsNewest after (lists_heard r (if own then told else Frame f ∷ told))
-told_or_own true before after r f told put kept = subst (λ (l : NewestLists). KeepsNewest l (lists_heard r told)) (sym put) kept
-told_or_own false before after r f told put kept = keeps_after before after r (Frame f) told put kept
+-- of a frame that is withheld nothing is told and nothing listed
+told_or_not : (withheld : Bool) (before after : NewestLists) (r : StationSettings) (f : FrameValue) (told : List Reading)
+    → HasPut HasNewest before (if withheld then None else entry_heard r (Frame f) told) after
+    → KeepsNewest before (lists_heard r told) → KeepsNewest after (lists_heard r (if withheld then told else Frame f ∷ told))
+told_or_not true before after r f told put kept = subst (λ (l : NewestLists). KeepsNewest l (lists_heard r told)) (sym put) kept
+told_or_not false before after r f told put kept = keeps_after before after r (Frame f) told put kept
 
 pub stands_at_first : (r : StationSettings) (grant keep : ℕ) (live : WorkingValue) (lists : NewestLists) (last : Option Verdict) (shared : SharedValue)
     → StandsFor r grant live.station (frames_told r []) → KeepsNewest lists (λ n k. []) → lists.keep ≡ keep
@@ -63,7 +66,7 @@ stands_heard old live after lists lists' last shared f same same_lists stands li
     let put = subst (λ (l : NewestLists). HasPut HasNewest l (entry_of_told r f h) lists') same_lists (listed r grant h before) in
     record {
       station = stands r grant h before;
-      lists = told_or_own (is_own (claimer_heard r (frames_told r h)) f) old.lists lists' r f (frames_told r h) put s.lists;
+      lists = told_or_not (is_untold_after r (frames_told r h) f) old.lists lists' r f (frames_told r h) put s.lists;
       keep_is = keep_put old.lists lists' (entry_of_told r f h) put ∙ s.keep_is;
     }
 
@@ -89,9 +92,14 @@ stays_by_deed (deed.Request to) now o p s s' does = ap (λ (w : WorkingValue). w
 stays_by_deed (deed.Command name address part) now o p s s' does = ap (λ (w : WorkingValue). w.station) does.1
 stays_by_deed (deed.Ends finding) now o p s s' does = ap (λ (w : WorkingValue). w.station) does.1
 
+stays_by_asking : (j : Option Session) (w : Watch) (now : ℕ) (p : Pulled) (s s' : WorkingValue) → AsksAgain j w now p s s' → s'.station ≡ s.station
+stays_by_asking None w now p s s' does = ap (λ (it : WorkingValue). it.station) does.1
+stays_by_asking (Some j) w now p s s' does = ap (λ (it : WorkingValue). it.station) does.1
+
 stays_by_turn : (t : Turn) (now : ℕ) (p : Pulled) (s s' : WorkingValue) → DoesTurn t now p s s' → s'.station ≡ s.station
 stays_by_turn turn.Rests now p s s' does = ap (λ (w : WorkingValue). w.station) does.1
 stays_by_turn (turn.Writes lane) now p s s' does = ap (λ (w : WorkingValue). w.station) does.rest
+stays_by_turn (turn.AsksAgain w) now p s s' does = stays_by_asking (session_of s.station w.source) w now p s s' does
 stays_by_turn turn.AsksClaims now p s s' does = ap (λ (w : WorkingValue). w.station) does.1
 stays_by_turn (turn.Does o d) now p s s' does = stays_by_deed d now o p s s' does
 

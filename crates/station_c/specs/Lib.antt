@@ -1,3 +1,4 @@
+pub mod Anew
 pub mod Handles
 pub mod Held
 pub mod HeldUnits
@@ -19,3 +20,4 @@ pub mod ListedLives
 pub mod LiveHandles
 pub mod LiveRecords
 pub mod SharedRecords
+pub mod Saving

@@ -1,19 +1,26 @@
 -- A live station, the lists that it fills, and the verdict of the newest order that ended.
-use Rattle.std.specs.Prelude.{◌≡◌, ◌&&◌, ℕ, Bool, true, false, List, Option, Some, None, option_map}
+use Rattle.std.specs.Prelude.{◌≡◌, ◌&&◌, ◌||◌, ◌==◌, ℕ, Bool, true, false, nat_lt, List, Option, Some, None, is_some, option_map, unwrap_or, if◌then◌else◌}
 use Rattle.bus_model.specs.Heard.{StationSettings}
 use Rattle.can_frame.specs.FrameValue.{FrameValue}
+use Rattle.can_frame.specs.declared.address.TheConstants.{GLOBAL_ADDRESS}
 use Rattle.can_frame.specs.declared.reading.Reading.{Reading}
 use Rattle.entry_lists.specs.Newest.{KeepsNewest, NewestLists}
 use Rattle.live_station.specs.Ear.{frames_told}
 use Rattle.live_station.specs.OpenOrders.{begun_order, order_cut_off}
 use Rattle.live_station.specs.Turns.{has_come}
 use Rattle.live_station.specs.Working.{WorkingValue, settled_since}
+use Rattle.live_station.specs.declared.open.OpenOrder.{OpenOrder}
 use Rattle.live_station.specs.declared.order.Order.{Order}
+use Rattle.live_station.specs.declared.order.Order.TheVariants.{Command}
 use Rattle.live_station.specs.declared.pulled.Pulled.{Pulled}
 use Rattle.live_station.specs.declared.pulled.Pulled.TheVariants.{Verdict as PulledVerdict}
 use Rattle.live_station.specs.declared.verdict.Verdict.{Verdict}
 use Rattle.parameter_group.specs.Group.{group_of}
-use Rattle.shared_groups.specs.Sharing.{HearsBeside, SharedValue, after_frame, brings_message, does_wait, is_for_program}
+use Rattle.shared_groups.specs.Outgoing.{is_broadcasting}
+use Rattle.shared_groups.specs.Sending.{has_to_do, why_unsent}
+use Rattle.shared_groups.specs.Sharing.{HearsBeside, SharedValue, after_frame, brings_message, is_for_program}
+use Rattle.shared_groups.specs.declared.error.SharedError.{SharedError}
+use Rattle.shared_groups.specs.declared.error.SharedError.TheVariants.{SessionOpen}
 use Rattle.station_table.specs.Listing.{lists_heard}
 use Rattle.station_table.specs.StandsFor.{StandsFor}
 
@@ -39,6 +46,15 @@ pub record StandsLive (r : StationSettings) (grant keep : ℕ) (v : ListedLiveVa
 abbrev pub with_order : Order → ListedLiveValue → ListedLiveValue
 with_order order v = record v { live = record v.live { order = Some (begun_order order) }; last = None }
 
+-- an order is a command, which goes in packets to all
+abbrev pub is_command : Order → Bool
+is_command (Command name address) = true
+is_command _ = false
+
+-- a message of the program's in packets to all is under way: a command waits for its end
+abbrev pub is_barred : Order → ListedLiveValue → Bool
+is_barred order v = is_some v.live.order || (is_command order && is_broadcasting v.shared.outgoing)
+
 -- the open order, if one is open, was cut off
 abbrev pub with_order_ended : ℕ → ListedLiveValue → ListedLiveValue
 with_order_ended now v = record v { live = record v.live { order = None }; last = newer_verdict (option_map (order_cut_off now) v.live.order) v.last }
@@ -57,6 +73,18 @@ pub record SharesFrame (f : FrameValue) (withheld whole : Bool) (v v' : ListedLi
   pub beside : withheld ≡ false → HearsBeside f (group_of f) whole v.shared v'.shared
   pub rest : v' ≡ record v { shared = v'.shared }
 
--- something waits for them, and the station has settled
+-- something is to be done for them, and the station has settled
 abbrev pub shared_goes : ℕ → ListedLiveValue → Bool
-shared_goes now v = does_wait v.shared && has_come (settled_since v.live) now
+shared_goes now v = has_to_do now v.shared && has_come (settled_since v.live) now
+
+-- a command is under way
+abbrev pub is_commanding_by : Option OpenOrder → Bool
+is_commanding_by None = false
+is_commanding_by (Some o) = is_command o.order
+
+-- why a message of so many bytes is not sent, memory aside: one in packets to all waits for the end of a command
+abbrev pub why_not_sent : ListedLiveValue → ℕ → ℕ → ℕ → Option SharedError
+why_not_sent v pgn size to =
+    if is_commanding_by v.live.order && nat_lt 8 size && (to == GLOBAL_ADDRESS)
+    then Some (unwrap_or (why_unsent v.shared pgn size to) SessionOpen)
+    else why_unsent v.shared pgn size to

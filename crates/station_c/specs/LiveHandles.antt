@@ -9,11 +9,12 @@ use Rattle.live_station.specs.declared.order.Order.{Order}
 use Rattle.live_station.specs.declared.pulled.Pulled.{Pulled}
 use Rattle.live_station.specs.declared.pulled.Told.{Told}
 use Rattle.station_c.specs.Held.{is_there}
-use Rattle.shared_groups.specs.Sharing.{frame_due, without_first}
-use Rattle.station_c.specs.ListedLives.{ListedLiveValue, SharesFrame, StandsLive, newer_verdict, shared_goes, verdict_pulled, with_order}
+use Rattle.shared_groups.specs.Sending.{after_due, frame_due}
+use Rattle.shared_groups.specs.declared.error.SharedError.{SharedError}
+use Rattle.station_c.specs.ListedLives.{ListedLiveValue, SharesFrame, StandsLive, is_barred, newer_verdict, shared_goes, verdict_pulled, with_order}
 use Rattle.station_c.specs.LiveRecords.{TellsPulled, TellsShared, change_told_on_bus}
 use Rattle.station_c.specs.Records.{flag}
-use Rattle.station_c.specs.Statuses.{Answers}
+use Rattle.station_c.specs.Statuses.{Answers, DoneUnlessMemory, status_of_shared}
 use Rattle.station_c.specs.declared.changes.ChangeRecord.{ChangeRecord}
 use Rattle.station_c.specs.declared.live_handle.LiveHandle.{LiveHandle}
 use Rattle.station_c.specs.declared.records.FrameRecord.{FrameRecord}
@@ -56,8 +57,18 @@ SharesTelling f before withheld whole after =
 abbrev pub PullsShared : ℕ → ListedLiveValue → ℕ → FrameRecord → FrameRecord → ListedLiveValue → Type 0
 PullsShared now before has was it after =
     (f : Option FrameValue) × TellsShared has was it f × (shared_goes now before ≡ false → IsNone f)
-    × (shared_goes now before ≡ true → f ≡ frame_due before.shared)
-    × (IsNone f → after ≡ before) × (IsSome f → after ≡ record before { shared = without_first before.shared })
+    × (shared_goes now before ≡ false → after ≡ before)
+    × (shared_goes now before ≡ true → (f ≡ frame_due now before.shared) × (after ≡ record before { shared = after_due now before.shared }))
+
+-- a message is sent, or is not, for a reason; or memory was refused
+abbrev pub IsSentUnless : Option SharedError → ℕ → Type 0
+IsSentUnless None number = DoneUnlessMemory number
+IsSentUnless (Some refusal) number = Answers number (status_of_shared refusal)
+
+-- an order, if it is one, is barred by what is under way
+abbrev pub is_order_barred : Option Order → ListedLiveValue → Bool
+is_order_barred None v = false
+is_order_barred (Some order) v = is_barred order v
 
 -- an order commands an address that nobody can hold
 abbrev pub CommandsTooFar : Option Order → Type 0
@@ -71,7 +82,7 @@ pub record TakesOrder (order : Option Order) (before after : LiveHandle) (number
   pub kept : ¬ Answers number Done → HoldsSameLive before after
   pub no_group : Answers number NoGroup ↔ IsNone order
   pub no_station : Answers number NoStation ↔ (IsSome order × (has_live before ≡ false))
-  pub order_open : Answers number OrderOpen ↔ (IsSome order × (has_live before ≡ true) × IsSome before.value.live.order)
-  pub not_an_address : Answers number NotAnAddress ↔ ((has_live before ≡ true) × IsNone before.value.live.order × CommandsTooFar order)
+  pub order_open : Answers number OrderOpen ↔ ((has_live before ≡ true) × (is_order_barred order before.value ≡ true))
+  pub not_an_address : Answers number NotAnAddress ↔ ((has_live before ≡ true) × (is_order_barred order before.value ≡ false) × CommandsTooFar order)
   pub only : Answers number Done
       ⊎ (Answers number NoGroup ⊎ (Answers number NoStation ⊎ (Answers number OrderOpen ⊎ Answers number NotAnAddress)))

@@ -15,7 +15,7 @@ use Rattle.shared_groups.specs.declared.error.SharedError.TheVariants as shared
 use Rattle.station_table.specs.declared.error.StationError.{StationError}
 use Rattle.station_table.specs.declared.error.StationError.TheVariants as station
 use Rattle.station_c.specs.declared.status.Status.{Status}
-use Rattle.station_c.specs.declared.status.Status.TheVariants.{Done, IdTooLarge, TooLong, NotAnAddress, NoAddress, NotHeld, BadSetting, PgnTooLarge, NoStation, HasStation, NoPlace, NoKind, OutOfMemory, NotKept, SpnTooLarge, FmiTooLarge, MemoryFull, NotActive, NoUnit, HasUnit, QueueFull, SessionOpen, NotPending, NoListener, HasListener, OrderOpen, NoGroup}
+use Rattle.station_c.specs.declared.status.Status.TheVariants.{Done, IdTooLarge, TooLong, NotAnAddress, NoAddress, NotHeld, BadSetting, PgnTooLarge, NoStation, HasStation, NoPlace, NoKind, OutOfMemory, NotKept, SpnTooLarge, FmiTooLarge, MemoryFull, NotActive, NoUnit, HasUnit, QueueFull, SessionOpen, NotPending, NoListener, HasListener, OrderOpen, NoGroup, NoRoom, NotSaved}
 
 -- the number of each
 abbrev pub status_number : Status → ℕ
@@ -46,6 +46,8 @@ status_number NoListener = 40
 status_number HasListener = 41
 status_number OrderOpen = 42
 status_number NoGroup = 43
+status_number NoRoom = 44
+status_number NotSaved = 45
 
 -- the refusal of a frame
 abbrev pub status_of_frame : FrameError → Status
@@ -90,6 +92,9 @@ status_of_shared shared.OutOfMemory = OutOfMemory
 status_of_shared shared.Full = QueueFull
 status_of_shared shared.NoGroup = NoGroup
 status_of_shared shared.NotHeld = NotHeld
+status_of_shared shared.TooLong = TooLong
+status_of_shared shared.NotAnAddress = NotAnAddress
+status_of_shared shared.SessionOpen = SessionOpen
 
 abbrev pub status_of_sharing : Result (Unit {0}) SharedError → Status
 status_of_sharing (Ok x) = Done

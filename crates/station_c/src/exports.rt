@@ -7,6 +7,7 @@ mod logs;
 mod open;
 mod orders;
 mod readings;
+mod saving;
 mod series;
 mod simulated;
 pub(crate) mod units;

@@ -8,9 +8,11 @@
 
 mod absent;
 mod changes;
+mod claims_told;
 mod exports;
 mod handle;
 mod heard_records;
+mod laws;
 mod listed_listener;
 mod listed_live;
 mod listed_station;
@@ -21,6 +23,8 @@ mod log_records;
 mod raw_box;
 mod records;
 mod replies;
+mod saved_frames;
+mod saving;
 mod shared_records;
 mod status;
 mod told;
@@ -30,6 +34,7 @@ mod unit_records;
 pub use changes::ChangeRecord;
 pub use handle::StationHandle;
 pub use heard_records::{HeardRecord, SentRecord, WhoRecord};
+pub use laws::one_at_a_time;
 pub use listener_handle::ListenerHandle;
 pub use live_handle::LiveHandle;
 pub use live_records::{LiveSettingsRecord, VerdictRecord};

@@ -1,7 +1,12 @@
-ghost use Rattle.std.specs.Prelude.{◌≡◌, ◌⊎◌, [], IfOk, OnErr};
+ghost use Rattle.std.specs.Prelude.{◌≡◌, ◌⊎◌, ◌≤◌, ◌<◌, ◌∷◌, List, [], IfOk, IfSome, OnOk, OnErr, length, true, false};
+ghost use Rattle.can_frame.specs.declared.reading.Reading.{Reading as AnyReading};
+ghost use Rattle.can_frame.specs.declared.reading.Reading.TheVariants.{Frame as FrameRead};
+ghost use Rattle.listener.specs.ListenerValue.{gaps_alone};
+ghost use Rattle.station_c.specs.Anew.{BeginsAnewListening, HasFewer, IsOwners, IsQuietAs, KeepsOwners, MakesRoomListening, claim_told, claims_held, gaps_anew, holds, with_frame};
 ghost use Rattle.station_c.specs.HeardSeries.{OverhearsFrame, HearsGap, time_handed};
-ghost use Rattle.station_c.specs.ListedListeners.{HasHeard, KnowsOfNone, TakesFrame, TakesGap};
+ghost use Rattle.station_c.specs.ListedListeners.{HasHeard, KnowsOfNone, ListedListenerValue, TakesFrame, TakesGap};
 
+use crate::claims_told::claim_held;
 use crate::heard_records::HeardRecord;
 use crate::status::Status;
 use crate::told::NO_TIME;
@@ -10,6 +15,7 @@ use listener::{
     BrokenMessage, BrokenMessages, Listener, NewestSent, Overheard, PacedListener, Silence,
     was_whole,
 };
+use name_field::Name;
 use parameter_group::ParameterGroup;
 use std::alloc::{AllocError, Global};
 use std::marker::Model;
@@ -128,6 +134,108 @@ impl ListedListener {
         };
         *heard = HeardRecord::of(&change, self.broken());
         Status::Done
+    }
+
+    /// Makes room for one more NAME and one more unit, of which there are to be this many at most, and at least one: where there are
+    /// as many, the listener is begun anew with the claims of the NAMEs that hold addresses, if there are fewer. Answers whether it
+    /// was.
+    ///
+    /// Refused: `OutOfMemory`; then nothing changed.
+    #[tactic(auto, using(crate::proofs::BegunListening::room_there, crate::proofs::BegunListening::room_made))]
+    pub fn make_room(&mut self, alloc: Global, most: usize) -> Result<bool, AllocError>
+        requires { 0 < most }
+        ensures made { IfOk result (λ anew. MakesRoomListening most self.old self.new anew) }
+        ensures err { OnErr result (self.new ≡ self.old) }
+    {
+        if self.has_room(most) {
+            return Ok(false);
+        }
+        let fresh = self.anew(alloc, most)?;
+        *self = fresh;
+        Ok(true)
+    }
+
+    /// Whether it has fewer NAMEs than that, and fewer units that have lists.
+    fn has_room(&self, most: usize) -> bool
+        ensures yes { result ≡ true → HasFewer most self.now }
+        ensures no { result ≡ false → (most ≤ length self.now.ear.listener.rows) ⊎ (most ≤ length self.now.lists.order) }
+    {
+        self.ear.listener().names() < most && self.lists.units() < most
+    }
+
+    /// A listener that is told of the owners of addresses alone, or of nothing where these are too many.
+    #[tactic(auto, using(crate::proofs::BegunListening::anew_with, crate::proofs::BegunListening::anew_without, crate::proofs::BegunListening::room_without))]
+    fn anew(&self, alloc: Global, most: usize) -> Result<ListedListener, AllocError>
+        requires { 0 < most }
+        ensures anew { IfOk result (λ l. BeginsAnewListening most self.now l) }
+        ensures room { IfOk result (λ l. HasFewer most l) }
+    {
+        let fresh = self.with_owners(alloc)?;
+        if fresh.has_room(most) {
+            return Ok(fresh);
+        }
+        self.with_nobody(alloc)
+    }
+
+    /// A listener that has heard nothing but one gap more; messages that break are numbered on.
+    #[tactic(auto, using(crate::proofs::BegunListening::nobody_heard))]
+    fn with_nobody(&self, alloc: Global) -> Result<ListedListener, AllocError>
+        ensures heard { IfOk result (λ l. HasHeard l (gaps_alone (gaps_anew self.now))) }
+        ensures quiet { IfOk result (λ l. IsQuietAs self.now l) }
+        ensures few { IfOk result (λ l. (l.ear.listener.rows ≡ []) × (l.lists.order ≡ [])) }
+    {
+        let gaps = self.ear.listener().gaps().saturating_add(1);
+        let ear = PacedListener::after_gaps(alloc, self.ear.silence(), gaps)?;
+        let lists = NewestSent::new(alloc, self.lists.keep());
+        let broken = BrokenMessages::new(alloc, self.broken.count());
+        Ok(ListedListener { ear, lists, broken })
+    }
+
+    /// A listener that is told of each NAME that holds an address.
+    fn with_owners(&self, alloc: Global) -> Result<ListedListener, AllocError>
+        ensures heard { IfOk result (λ l. HasHeard l (claims_held self.now.ear.listener.owners self.now.ear.listener.rows (gaps_alone (gaps_anew self.now)))) }
+        ensures owners { OnOk result (KeepsOwners self.now.ear.listener.owners (claims_held self.now.ear.listener.owners self.now.ear.listener.rows (gaps_alone (gaps_anew self.now)))) }
+        ensures quiet { IfOk result (λ l. IsQuietAs self.now l) }
+    {
+        let mut fresh = self.with_nobody(alloc)?;
+        for place in 0..self.ear.listener().names() {
+            if let Some(name) = self.ear.listener().name_at(place) {
+                let claim = self.claim_held(name);
+                fresh.tell(alloc, claim)?;
+            }
+        }
+        Ok(fresh)
+    }
+
+    /// The claim of a NAME that holds an address.
+    fn claim_held(&self, name: Name) -> Option<Frame>
+        ensures told { result ≡ claim_told name (holds self.now.ear.listener.owners self.now.ear.listener.rows name) }
+        ensures owned { IfSome result (λ f. IsOwners self.now.ear.listener.owners f) }
+    {
+        claim_held(self.ear.listener(), name)
+    }
+
+    /// Is told a claim, if there is one, whatever is under way.
+    #[tactic(auto, using(crate::proofs::BegunListening::heard_some, crate::proofs::BegunListening::heard_none))]
+    fn tell(&mut self, alloc: Global, claim: Option<Frame>) -> Result<(), AllocError>
+        ensures heard { OnOk result ((h : List AnyReading) → HasHeard self.old h → HasHeard self.new (with_frame claim h)) }
+        ensures quiet { OnOk result ((old : ListedListenerValue) → IsQuietAs old self.old → IsQuietAs old self.new) }
+    {
+        match claim {
+            Some(claim) => match self.take_claim(alloc, claim) {
+                Ok(_) => Ok(()),
+                Err(refused) => Err(refused),
+            },
+            None => Ok(()),
+        }
+    }
+
+    /// Takes a claim, whatever is under way.
+    fn take_claim(&mut self, alloc: Global, claim: Frame) -> Result<Overheard, AllocError>
+        ensures heard { OnOk result ((h : List AnyReading) → HasHeard self.old h → HasHeard self.new (FrameRead claim ∷ h)) }
+        ensures quiet { OnOk result ((old : ListedListenerValue) → IsQuietAs old self.old → IsQuietAs old self.new) }
+    {
+        self.ear.take(alloc, Reading::Frame(claim), &mut self.lists)
     }
 }
 

@@ -194,4 +194,17 @@ impl ReplyRecord {
             ],
         }
     }
+
+    /// Writes a reaction of at most three frames. Where it has none, as most have, the places of frames stay as they were.
+    pub fn write(&mut self, reaction: &Reaction)
+        requires { length reaction.now.put ≤ 3 }
+        ensures { TellsReaction self.new reaction.now }
+    {
+        if reaction.put.is_empty() {
+            self.withdraw = u8::from(reaction.withdraw);
+            self.count = 0;
+        } else {
+            *self = ReplyRecord::of(reaction);
+        }
+    }
 }

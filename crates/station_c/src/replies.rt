@@ -15,7 +15,7 @@ pub fn reply_with(answer: Result<Reaction, StationError>, reply: &mut ReplyRecor
 {
     match answer {
         Ok(reaction) => {
-            *reply = ReplyRecord::of(&reaction);
+            reply.write(&reaction);
             Status::Done
         }
         Err(refusal) => Status::of_station(refusal),
@@ -34,7 +34,7 @@ pub fn tell(
 {
     match outcome {
         Ok(it) => {
-            *reply = ReplyRecord::of(&it.reaction);
+            reply.write(&it.reaction);
             *change = ChangeRecord::of(&it.change);
             Status::Done
         }

@@ -1,10 +1,11 @@
-//! A message of a group that a program shares, for C, in C's layout. `c/hidzgula_station.h` has the same struct.
+//! A message of a group that a program shares, for C, in C's layout, and what came of one that it sent. `c/hidzgula_station.h` has the same
+//! struct and numbers.
 ghost use Rattle.std.specs.Prelude.{◌≡◌, ◌≤◌, length, take};
-ghost use Rattle.station_c.specs.SharedRecords.{TellsMessage, name_under};
+ghost use Rattle.station_c.specs.SharedRecords.{TellsMessage, name_under, sent_number, sent_reason};
 ghost use Rattle.station_c.specs.declared.shared_records.TheConstants.{MOST_BYTES};
 
 use name_field::Name;
-use shared_groups::SharedMessage;
+use shared_groups::{Sent, SharedMessage};
 
 /// The most bytes that a message has (SAE J1939-21).
 pub const MOST_BYTES: usize = 1785;
@@ -69,5 +70,22 @@ fn flagged_name(name: Option<Name>) -> (u8, u64)
     match name {
         Some(name) => (1, name.number()),
         None => (0, 0),
+    }
+}
+
+/// The number of what came of a message that was sent, and the reason for which its receiver aborted it, else 0.
+pub fn numbers_of(sent: Sent) -> (u8, u8)
+    ensures number { result.0 ≡ sent_number sent }
+    ensures reason { result.1 ≡ sent_reason sent }
+{
+    match sent {
+        Sent::Nothing => (0, 0),
+        Sent::Open => (1, 0),
+        Sent::Written => (2, 0),
+        Sent::Acknowledged => (3, 0),
+        Sent::Aborted { reason } => (4, reason),
+        Sent::Silent => (5, 0),
+        Sent::AskedTooOften => (6, 0),
+        Sent::CutOff => (7, 0),
     }
 }

@@ -14,9 +14,9 @@ pub enum Status {
     Done,
     /// The identifier is 2^29 or more.
     IdTooLarge,
-    /// There are more than eight bytes.
+    /// There are more than eight bytes; or, of a message, more than 1,785.
     TooLong,
-    /// 254 and 255 are no addresses to hold.
+    /// 254 and 255 are no addresses to hold; no message of that group and size goes to that address.
     NotAnAddress,
     /// The station knows no address of that NAME.
     NoAddress,
@@ -52,7 +52,7 @@ pub enum Status {
     HasUnit,
     /// As much waits to be written as there is room for.
     QueueFull,
-    /// A session of that kind is open.
+    /// A session of that kind is open; another message of the program's, or a command, is under way.
     SessionOpen,
     /// The code that is to go away is not pending.
     NotPending,
@@ -60,10 +60,14 @@ pub enum Status {
     NoListener,
     /// The handle has a listener already.
     HasListener,
-    /// Another order is open.
+    /// Another order is open; or, for a command, a message of the program's in packets to all is under way.
     OrderOpen,
-    /// The parameter group is none that an order asks for, or by which one clears; none that may be shared, or is.
+    /// The parameter group is none that an order asks for, or by which one clears; none that may be shared, or is; none that an identifier carries.
     NoGroup,
+    /// The array is too short for what is saved.
+    NoRoom,
+    /// What is saved would not show the same.
+    NotSaved,
 }
 
 impl Status {
@@ -102,6 +106,8 @@ impl Status {
             Status::HasListener => 41,
             Status::OrderOpen => 42,
             Status::NoGroup => 43,
+            Status::NoRoom => 44,
+            Status::NotSaved => 45,
         }
     }
 
@@ -181,6 +187,9 @@ impl Status {
             SharedError::Full => Status::QueueFull,
             SharedError::NoGroup => Status::NoGroup,
             SharedError::NotHeld => Status::NotHeld,
+            SharedError::TooLong => Status::TooLong,
+            SharedError::NotAnAddress => Status::NotAnAddress,
+            SharedError::SessionOpen => Status::SessionOpen,
         }
     }
 }

@@ -3,7 +3,10 @@
 
 mod frames;
 mod lists;
+mod named;
 mod open;
 mod orders;
+mod saving;
+mod sending;
 mod shared;
 mod units;

@@ -1,5 +1,6 @@
 //! A station is opened in a handle, and closed.
-ghost use Rattle.std.specs.Prelude.{◌≡◌, ◌⊎◌, ◌↔◌, ◌<◌, ◌≤◌, true, false, []};
+ghost use Rattle.std.specs.Prelude.{◌≡◌, ◌⊎◌, ◌↔◌, ◌<◌, ◌≤◌, IsNone, length, true, false, []};
+ghost use Rattle.station_c.specs.Anew.{TellsRoom};
 ghost use Rattle.station_c.specs.Handles.{HoldsSame, HoldsReadings, has_station};
 ghost use Rattle.station_c.specs.Statuses.{Answers, DoneUnlessMemory};
 
@@ -8,7 +9,6 @@ use crate::listed_station::ListedStation;
 use crate::status::Status;
 use can_frame::GREATEST_ADDRESS;
 use name_field::Name;
-use station_table::Station;
 use std::alloc::Global;
 
 /// Opens a station of this NAME, which holds this address, 0 to 253, and grants at most this many packets at once, at least one.
@@ -40,8 +40,8 @@ pub extern "C" fn hidzgula_open(
         handle.put(station);
         return Status::HasStation.number();
     }
-    let station = Station::new(alloc, Name::from_number(name), address, grant);
-    let Ok(station) = Box::new(alloc, ListedStation::new(alloc, station, keep)) else {
+    let station = ListedStation::new(alloc, Name::from_number(name), address, grant, keep);
+    let Ok(station) = Box::new(alloc, station) else {
         return Status::OutOfMemory.number();
     };
     handle.put(station);
@@ -54,4 +54,45 @@ pub extern "C" fn hidzgula_close(alloc: Global, handle: &mut StationHandle)
     ensures { has_station handle.new ≡ false }
 {
     let _station = handle.lift(alloc);
+}
+
+/// Makes room for one more NAME, of which there are to be `most` at most: where there are as many, the station is begun anew, and `anew`
+/// is 1, else 0. It is then as one that was opened at its address, and read the claims of the NAMEs that hold others, if these are fewer
+/// than `most`: without other rows, and with nothing listed, counted or half joined.
+///
+/// Refused, in this order: `BadSetting` for `most` 0, `NoStation`, `NotHeld` where it is to be begun anew and holds no address,
+/// `OutOfMemory`; handle and `anew` are then as they were.
+#[unsafe(no_mangle)]
+pub extern "C" fn hidzgula_make_room(
+    alloc: Global,
+    handle: &mut StationHandle,
+    most: usize,
+    anew: &mut u8,
+) -> u32
+    ensures made { Answers result Status.Done → TellsRoom most handle.old.value handle.new.value anew.new }
+    ensures open { has_station handle.new ≡ has_station handle.old }
+    ensures kept { ¬ Answers result Status.Done → HoldsSame handle.old handle.new }
+    ensures untold { ¬ Answers result Status.Done → anew.new ≡ anew.old }
+    ensures bad_setting { Answers result Status.BadSetting ↔ (most ≡ 0) }
+    ensures no_station { Answers result Status.NoStation ↔ ((0 < most) × (has_station handle.old ≡ false)) }
+    ensures not_held { Answers result Status.NotHeld ↔ ((0 < most) × (has_station handle.old ≡ true)
+        × (most ≤ length handle.old.value.station.rows) × IsNone handle.old.value.station.claimer.held) }
+    ensures done { (0 < most) → (has_station handle.old ≡ true)
+        → (Answers result Status.Done) ⊎ (Answers result Status.NotHeld) ⊎ (Answers result Status.OutOfMemory) }
+{
+    if most == 0 {
+        return Status::BadSetting.number();
+    }
+    let Some(mut station) = handle.lift(alloc) else {
+        return Status::NoStation.number();
+    };
+    let made = station.make_room(alloc, most);
+    handle.put(station);
+    match made {
+        Ok(begun) => {
+            *anew = u8::from(begun);
+            Status::Done.number()
+        }
+        Err(refusal) => refusal.number(),
+    }
 }

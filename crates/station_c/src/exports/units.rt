@@ -1,7 +1,9 @@
 //! What the station of a handle knows of NAMEs, of its own address, and of what it could not read.
-ghost use Rattle.std.specs.Prelude.{◌≡◌, ◌↔◌, ◌⊎◌, ◌≤◌, ℕ, List, Some, IfSome, IsNone, length, slice_get, true, false};
+ghost use Rattle.std.specs.Prelude.{◌≡◌, ◌↔◌, ◌⊎◌, ◌≤◌, ℕ, List, None, Some, IfSome, IsNone, length, slice_get, true, false};
 ghost use Rattle.bus_model.specs.Heard.{StationSettings, address_heard, claimer_heard, missed_count, names_heard, row_heard, unread_count};
 ghost use Rattle.can_frame.specs.declared.reading.Reading.{Reading as AnyReading};
+ghost use Rattle.entry_lists.specs.KeptValue.{kept_under};
+ghost use Rattle.entry_lists.specs.KnownRows.{row_of};
 ghost use Rattle.station_table.specs.Reactions.{own_claim};
 ghost use Rattle.station_table.specs.StandsFor.{StandsFor};
 ghost use Rattle.station_c.specs.Handles.{HoldsSame, HoldsReadings, has_station};
@@ -11,6 +13,7 @@ ghost use Rattle.station_c.specs.Statuses.{Answers};
 use crate::handle::StationHandle;
 use crate::records::{FrameRecord, RowRecord, flagged};
 use crate::status::Status;
+use name_field::Name;
 use station_table::Station;
 use std::alloc::Global;
 
@@ -151,6 +154,18 @@ pub(crate) fn row_at(station: &Station, place: usize) -> Option<RowRecord>
         → length (names_heard h) ≤ place }
 {
     let name = station.name_at(place)?;
+    row_named(station, name)
+}
+
+/// The row of a NAME, if a station has one.
+pub(crate) fn row_named(station: &Station, name: Name) -> Option<RowRecord>
+    ensures name { IfSome result (λ row. row.name ≡ name) }
+    ensures found { IfSome result (λ row. (r : StationSettings) (grant : ℕ) (h : List AnyReading) → StandsFor r grant station.now h
+        → row_heard r name h ≡ Some (row_in row)) }
+    ensures none { IsNone result → (r : StationSettings) (grant : ℕ) (h : List AnyReading) → StandsFor r grant station.now h
+        → row_heard r name h ≡ None }
+    ensures unknown { IsNone result → row_of station.now.owners name (kept_under station.now.rows name) ≡ None }
+{
     let row = station.row(name)?;
     let (has_address, address) = flagged(row.address);
     let (has_ack, ack_control, ack_pgn) = match row.ack {

@@ -1,5 +1,6 @@
 //! A listener is opened in a handle, and closed.
-ghost use Rattle.std.specs.Prelude.{◌≡◌, ◌↔◌, [], true, false};
+ghost use Rattle.std.specs.Prelude.{◌≡◌, ◌↔◌, ◌<◌, [], true, false};
+ghost use Rattle.station_c.specs.Anew.{TellsRoomListening};
 ghost use Rattle.station_c.specs.ListedListeners.{KnowsOfNone};
 ghost use Rattle.station_c.specs.ListenerHandles.{HoldsHeard, HoldsSameListener, has_listener};
 ghost use Rattle.station_c.specs.Statuses.{Answers, DoneUnlessMemory};
@@ -46,4 +47,41 @@ pub extern "C" fn hidzgula_listener_close(alloc: Global, handle: &mut ListenerHa
     ensures { has_listener handle.new ≡ false }
 {
     let _listener = handle.lift(alloc);
+}
+
+/// Makes room for one more NAME, and one more unit that has lists, of which there are to be `most` at most: where there are as many, the
+/// listener is begun anew, and `anew` is 1, else 0. It knows then the claims of the NAMEs that hold addresses, if these are fewer than
+/// `most`, and no other row, list, count of frames or message under way; messages that break are numbered on, and gaps, with one more.
+///
+/// Refused, in this order: `BadSetting` for `most` 0, `NoListener`, `OutOfMemory`; handle and `anew` are then as they were.
+#[unsafe(no_mangle)]
+pub extern "C" fn hidzgula_listener_make_room(
+    alloc: Global,
+    handle: &mut ListenerHandle,
+    most: usize,
+    anew: &mut u8,
+) -> u32
+    ensures made { Answers result Status.Done → TellsRoomListening most handle.old.value handle.new.value anew.new }
+    ensures open { has_listener handle.new ≡ has_listener handle.old }
+    ensures kept { ¬ Answers result Status.Done → HoldsSameListener handle.old handle.new }
+    ensures untold { ¬ Answers result Status.Done → anew.new ≡ anew.old }
+    ensures bad_setting { Answers result Status.BadSetting ↔ (most ≡ 0) }
+    ensures no_listener { Answers result Status.NoListener ↔ ((0 < most) × (has_listener handle.old ≡ false)) }
+    ensures done { (0 < most) → (has_listener handle.old ≡ true) → DoneUnlessMemory result }
+{
+    if most == 0 {
+        return Status::BadSetting.number();
+    }
+    let Some(mut listener) = handle.lift(alloc) else {
+        return Status::NoListener.number();
+    };
+    let made = listener.make_room(alloc, most);
+    handle.put(listener);
+    match made {
+        Ok(begun) => {
+            *anew = u8::from(begun);
+            Status::Done.number()
+        }
+        Err(_) => Status::OutOfMemory.number(),
+    }
 }

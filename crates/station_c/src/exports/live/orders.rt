@@ -2,7 +2,7 @@
 ghost use Rattle.std.specs.Prelude.{◌≡◌, ◌⊎◌, ◌↔◌, IfSome, IsNone, IsSome, Some, option_map, true, false};
 ghost use Rattle.live_station.specs.declared.order.Order.TheVariants.{Command};
 ghost use Rattle.station_c.specs.ListedLives.{with_order, with_order_ended};
-ghost use Rattle.station_c.specs.LiveHandles.{CommandsTooFar, HoldsSameLive, TakesOrder, has_live};
+ghost use Rattle.station_c.specs.LiveHandles.{CommandsTooFar, HoldsSameLive, TakesOrder, has_live, is_order_barred};
 ghost use Rattle.station_c.specs.LiveRecords.{order_to_ask, order_to_ask_all, order_to_clear, verdict_told};
 ghost use Rattle.station_c.specs.Statuses.{Answers};
 
@@ -59,7 +59,8 @@ pub extern "C" fn hidzgula_live_clear(
 
 /// Commands the unit of this NAME to hold an address, 0 to 253 (SAE J1939-81).
 ///
-/// Refused, in this order: `NoStation`, `OrderOpen` while another order is open, `NotAnAddress` for 254 and 255; nothing changed then.
+/// Refused, in this order: `NoStation`; `OrderOpen` while another order is open, or a message of the program's in packets to all is under way;
+/// `NotAnAddress` for 254 and 255; nothing changed then.
 #[unsafe(no_mangle)]
 pub extern "C" fn hidzgula_live_command(
     alloc: Global,
@@ -81,9 +82,9 @@ fn order(alloc: Global, handle: &mut LiveHandle, order: Option<Order>) -> Status
     ensures no_group { (result ≡ Status.NoGroup) ↔ IsNone order }
     ensures no_station { (result ≡ Status.NoStation) ↔ (IsSome order × (has_live handle.old ≡ false)) }
     ensures order_open { (result ≡ Status.OrderOpen)
-        ↔ (IsSome order × (has_live handle.old ≡ true) × IsSome handle.old.value.live.order) }
+        ↔ ((has_live handle.old ≡ true) × (is_order_barred order handle.old.value ≡ true)) }
     ensures not_an_address { (result ≡ Status.NotAnAddress)
-        ↔ ((has_live handle.old ≡ true) × IsNone handle.old.value.live.order × CommandsTooFar order) }
+        ↔ ((has_live handle.old ≡ true) × (is_order_barred order handle.old.value ≡ false) × CommandsTooFar order) }
     ensures only { (result ≡ Status.Done) ⊎ ((result ≡ Status.NoGroup)
         ⊎ ((result ≡ Status.NoStation) ⊎ ((result ≡ Status.OrderOpen) ⊎ (result ≡ Status.NotAnAddress)))) }
 {

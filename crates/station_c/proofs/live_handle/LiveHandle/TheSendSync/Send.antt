@@ -13,6 +13,7 @@ use Rattle.station_c.specs.contracts.live_handle.LiveHandle as handle
 use Rattle.station_c.specs.contracts.listed_live.ListedLive as listed
 use Rattle.entry_lists.specs.contracts.newest.NewestEntries as newest
 use Rattle.live_unit.specs.contracts.echo.Echo as echo
+use Rattle.live_station.specs.contracts.loss.Losses as losses
 use Rattle.live_station.specs.contracts.open.OpenOrder as order
 use Rattle.live_station.specs.contracts.station.LiveStation as live
 use Rattle.live_station.specs.contracts.verdict.Verdict as verdict
@@ -47,8 +48,11 @@ order_send = search (sendable, crosses, verdict_send) depth 60 fits 20000
 echo_send : IsSend echo.the_row
 echo_send = search (sendable, crosses) depth 60 fits 20000
 
+losses_send : IsSend losses.the_row
+losses_send = search (sendable, crosses) depth 60 fits 20000
+
 live_send : IsSend live.the_row
-live_send = search (sendable, crosses, maps.crosses, station_send, queue_send, clock_send, echo_send, order_send) depth 60 fits 20000
+live_send = search (sendable, crosses, maps.crosses, station_send, queue_send, clock_send, echo_send, losses_send, order_send) depth 60 fits 20000
 
 message_send : IsSend message.the_row
 message_send = search (sendable, crosses) depth 60 fits 20000

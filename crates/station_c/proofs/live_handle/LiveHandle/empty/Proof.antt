@@ -28,7 +28,7 @@ pub empty_spec : {M : Type 1} → statement M
 empty_spec 𝓤 𝓛 𝓜 𝓡 wired =
     let H = 𝓛.H in let 𝓣 = tables 𝓤 H 𝓜 𝓡 𝓡.env in let c = clauses 𝓛 𝓜.mem 𝓡.returns in
     proved_at 𝓛 ended tt c 𝓜 𝓡 tt #self code.function (code.unfolded 𝓤 H 𝓜 𝓡 wired) (λ z are.
-    let Post : Val → SProp 𝓤 = (walk_of 𝓛 ended tt c).post z in let w : Val = both vnull (vbool false) in let none : ListedLiveValue = record { live = begun_station 0 0 1 (record { gap = 0; settle = 0 }); lists = record { keep = 0; rows = [] }; last = None; shared = none_shared None 1 } in
+    let Post : Val → SProp 𝓤 = (walk_of 𝓛 ended tt c).post z in let w : Val = both vnull (vbool false) in let none : ListedLiveValue = record { live = begun_station 0 0 1 (record { gap = 0; settle = 0 }); lists = record { keep = 0; rows = [] }; last = None; shared = none_shared None 1 0 } in
     qed 𝓛 ((‵ ftrue ⊛ ‵ ftrue) ∷ raw ((c z.0.0 z.0.3).requires z.1) ∷ []) ∵ drop ! $ drop ! $
     enter ! 𝓣.C 𝓣.Λ code.function [] Post $ alloc_all ! (λ l. pass_all ! refl tt $
     sets ! (agg ! (and_then ! (lit ! tt) (and_then ! (false_lit !) (no_more !)))) refl (tt, (record { fits = lit< tt }, (tt, tt))) $

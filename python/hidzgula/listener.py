@@ -18,7 +18,7 @@ from ._library import (
 )
 from .records import BrokenBy, Code, Counts, Heard, HeardFrames, Kind, Lamps, Message, NotRead, Unit, What, Who, Why
 from .refusals import refuse
-from .station import AT_ONCE, FRAME, KEEP_ALL, Octets, done, number_of, octets_of, packed_frames, said_by, unit_of
+from .station import AT_ONCE, FRAME, KEEP_ALL, Ceiling, Octets, done, number_of, octets_of, packed_frames, said_by, unit_of
 
 NO_TIME = 2**64 - 1
 _NO_PLACE = 31
@@ -44,17 +44,21 @@ class Listener:
             print(*listener.messages(0xA0, DM1))
     """
 
-    def __init__(self, *, keep: Optional[int] = None) -> None:
+    def __init__(self, *, keep: Optional[int] = None, most: Optional[int] = None) -> None:
         """Opens a listener that has heard nothing.
 
         keep: of each list the newest so many messages are kept, 0 to 2^32 - 1, and all are counted; None for all.
+        most: how many NAMEs it has at most, and how many units that have lists, 1 or more; None for all. Where it has as many, the next frame begins
+            it anew: it goes on with the NAMEs that hold addresses, if these are fewer, and without any other row, list or count (`begun_anew`). It
+            counts a gap then, so that a `Who` without a NAME is one unit.
 
-        Raises MemoryError.
+        Raises Refused BAD_SETTING for `most` 0, and MemoryError.
         """
         self._listener = ListenerRecord()
         self._lock = threading.Lock()
         self._heard = HeardRecord()
         kept = number_of("keep", KEEP_ALL if keep is None else keep, KEEP_ALL)
+        self._ceiling = Ceiling(most, library.hidzgula_listener_make_room, library.hidzgula_listener_rows, library.hidzgula_listener_units)
         done(library.hidzgula_listener_open(self._listener, kept))
         self._keep = kept
 
@@ -102,6 +106,7 @@ class Listener:
         data = octets_of(data)
         now = _time_of(time)
         with self._lock:
+            done(self._ceiling.make_room(self._listener))
             done(library.hidzgula_listener_take_at(self._listener, now, id, data, len(data), self._heard))
             return _heard_of(self._heard)
 
@@ -136,8 +141,15 @@ class Listener:
         with self._lock:
             while True:
                 one = ctypes.c_size_t(0)
-                status = library.hidzgula_listener_take_frames_at(
-                    self._listener, first + taken * FRAME.size, count - taken, times + taken * _LOGGED.size, count - taken, records, len(records), one
+                status = self._ceiling.make_room(self._listener) or library.hidzgula_listener_take_frames_at(
+                    self._listener,
+                    first + taken * FRAME.size,
+                    count - taken,
+                    times + taken * _LOGGED.size,
+                    count - taken,
+                    records,
+                    min(len(records), self._ceiling.room(self._listener)),
+                    one,
                 )
                 self._add_heard(heard, records, one.value, start + taken)
                 taken += one.value
@@ -187,6 +199,11 @@ class Listener:
             heard += ((first + count - 1, one) for one in self._broken(fields[7] == What.BROKEN))
 
     # ---- what it knows
+
+    @property
+    def begun_anew(self) -> int:
+        """How often it was begun anew, since it had as many NAMEs, or units that have lists, as it may have (`most`)."""
+        return self._ceiling.begun_anew
 
     def units(self) -> List[Unit]:
         """What is known of each NAME whose claim was read, in the order of their first claims.

@@ -4,12 +4,16 @@ import ctypes
 import threading
 from typing import Any, Callable, Iterable, Optional
 
-from ._library import ChangeRecord, FrameRecord, LiveRecord, LiveSettingsRecord, MessageRecord, VerdictRecord, library
-from .records import Change, Doubt, Finding, Frame, Kind, SharedMessage, Verdict, What
-from .station import KEEP_ALL, Known, Octets, Queries, at_address, change_of, done, frame_of, number_of, octets_of, said_by
+from ._library import ChangeRecord, FrameRecord, LiveRecord, LiveSettingsRecord, MessageRecord, RowRecord, VerdictRecord, library
+from .records import Change, Delivery, Doubt, Finding, Frame, Kind, Sent, SharedMessage, Verdict, What
+from .refusals import refuse
+from .saving import read
+from .station import KEEP_ALL, Ceiling, Known, Octets, Queries, at_address, change_of, done, frame_of, number_of, octets_of, said_by
 
 _NEVER = 2**64 - 1
 _OPEN = 1
+_NO_PLACE, _NO_ADDRESS = 31, 22
+_ORDER_OPEN = 42
 _GROUPS = {Kind.DM1: 65226, Kind.DM2: 65227, Kind.DM6: 65231}
 # the kind of the message that answers a request for a group; of a clear the one that shows what is left
 _KINDS = {65226: Kind.DM1, 65227: Kind.DM2, 65231: Kind.DM6, 65228: Kind.DM2, 65235: Kind.DM1}
@@ -40,7 +44,9 @@ class LiveStation(Known):
         library.hidzgula_live_entries,
         library.hidzgula_live_entry,
         library.hidzgula_live_code,
+        library.hidzgula_live_save,
     )
+    _is_live = True
 
     def __init__(
         self,
@@ -49,6 +55,7 @@ class LiveStation(Known):
         *,
         grant: int = 255,
         keep: Optional[int] = 16,
+        most: Optional[int] = None,
         gap: int = 50_000,
         settle: int = 250_000,
         share: Iterable[int] = (),
@@ -60,12 +67,15 @@ class LiveStation(Known):
         address: which it holds, 0 to 253.
         grant: how many packets it lets a sender send at once, 1 to 255 (SAE J1939-21).
         keep: of each list the newest so many messages are kept, 0 to 2^32 - 1, and all are counted; None for all.
-        gap: microseconds at least from a frame of a command to the next, 10,000 to 200,000: 50 to 200 ms by SAE J1939-21, 10 to 200 ms by
+        most: how many NAMEs it has at most, 1 or more; None for all. Where it has as many, the next frame begins it anew, as it begins a `Station`: it
+            claims its address again and asks all for their claims, and what waits is let go. While an order is open it may have twice as many;
+            with these the order is cut off.
+        gap: microseconds at least from a frame of a command, or of a broadcast, to the next, 10,000 to 200,000: 50 to 200 ms by SAE J1939-21, 10 to 200 ms by
             ISO 11783-3 and later editions (from memory).
         settle: microseconds from the claim of a new address to anything but a claim, up to 1,000,000 (SAE J1939-81: 250,000).
         share: groups whose messages the program has at this address; each that is whole is handed to `on_message` by the call of `hear` that made it so.
 
-        Raises Refused BAD_SETTING for an address above 253, a grant of 0 or a time out of its range, NO_GROUP for a group of the protocol or of
+        Raises Refused BAD_SETTING for an address above 253, a grant of 0, `most` 0 or a time out of its range, NO_GROUP for a group of the protocol or of
         diagnostics in `share`, and MemoryError.
         """
         self._station = LiveRecord()
@@ -76,6 +86,7 @@ class LiveStation(Known):
         self._shares = False
         self.on_message = on_message
         self._keep = number_of("keep", KEEP_ALL if keep is None else keep, KEEP_ALL)
+        self._ceiling = Ceiling(most, library.hidzgula_live_make_room)
         self._name = name = number_of("name", name, 2**64 - 1)
         settings = LiveSettingsRecord(
             number_of("gap", gap, _NEVER, most_is_refused=True),
@@ -87,6 +98,32 @@ class LiveStation(Known):
         self._is_there = True
         for pgn in share:
             self.share(pgn)
+
+    @classmethod
+    def restore(cls, saved: Octets, now: int, **settings: Any) -> "LiveStation":
+        """Opens a station that knows what another live one saved, of the same NAME, address and `keep`: units without addresses, which come back by claims,
+        and the messages that were kept; their places and the counts begin anew, with one frame missed. Orders and groups that are shared are not saved;
+        `settings` are the others of the opening. Its claim waits, and behind it a request for the claims of all.
+
+        Raises ValueError for what was not saved of a live station, in another version, or was cut or changed; and what the opening raises. Then nothing is
+        open.
+        """
+        it = read(True, saved)
+        now = number_of("now", now, _NEVER)
+        station = cls(it.name, it.address, keep=it.keep, **settings)
+        station._hear_saved(it.frames, now)
+        return station
+
+    def _hear_saved(self, frames: Iterable[FrameRecord], now: int) -> None:
+        """Hears frames that were saved, and a gap; closes the station where one is refused."""
+        try:
+            with self._lock:
+                for frame in frames:
+                    done(library.hidzgula_live_hear(self._station, frame.id, bytes(frame.bytes), frame.length, now, self._change))
+                done(library.hidzgula_live_missed(self._station, 1, now, self._change))
+        except BaseException:
+            LiveStation.close(self)
+            raise
 
     def close(self) -> None:
         """Closes the station and frees its memory; every other call is then Refused, NO_STATION. Closing twice does nothing."""
@@ -123,8 +160,8 @@ class LiveStation(Known):
 
         Frames with 11-bit identifiers, remote frames, error frames and frames of CAN FD are not handed over.
 
-        Raises Refused ID_TOO_LARGE, TOO_LONG, NO_STATION, QUEUE_FULL where as much waits as there is room for, and MemoryError: then the frame was
-        not heard, and may be handed over again.
+        Raises Refused ID_TOO_LARGE, TOO_LONG, NO_STATION, NOT_HELD where it has `most` NAMEs and holds no address, QUEUE_FULL where as much waits as
+        there is room for, and MemoryError: then the frame was not heard, and may be handed over again.
         """
         id = number_of("id", id, 2**32 - 1, most_is_refused=True)
         data = octets_of(data)
@@ -139,12 +176,24 @@ class LiveStation(Known):
             if withheld.value:
                 change = Change(What.NOTHING)
             else:
+                self._make_room(now)
                 done(library.hidzgula_live_hear(self._station, id, data, len(data), now, self._change))
                 self._look()
                 change = change_of(self._change)
         if message is not None and self.on_message is not None:
             self.on_message(message)
         return change
+
+    def _make_room(self, now: int) -> None:
+        """Makes room for the NAME of one more frame."""
+        status = self._ceiling.make_room(self._station)
+        if status == _ORDER_OPEN:
+            status = self._ceiling.make_room(self._station, times=2)
+        if status == _ORDER_OPEN:
+            done(library.hidzgula_live_end(self._station, now))
+            self._look()
+            status = self._ceiling.make_room(self._station)
+        done(status)
 
     def missed(self, count: int, now: int) -> Change:
         """Tells the station that `count` frames of the bus were missed, 0 to 2^32 - 1: it forgets which NAME owns which address, and all messages that
@@ -200,14 +249,51 @@ class LiveStation(Known):
             done(library.hidzgula_live_share(self._station, number_of("pgn", pgn, 2**32 - 1, most_is_refused=True)))
             self._shares = True
 
-    def request(self, to: int, pgn: int) -> None:
-        """Asks the unit at an address, or all (255), for a group that is shared: `next` gives the request.
+    def request(self, to: Optional[int] = None, pgn: Any = None, *, name: Optional[int] = None) -> None:
+        """Asks for a group that is shared, the unit at an address, all (255), or the unit of a NAME: `next` gives the request.
 
-        Raises Refused NO_GROUP where it is not shared, NOT_HELD, QUEUE_FULL, NO_STATION.
+        Raises Refused NO_GROUP where it is not shared, NOT_HELD, QUEUE_FULL, NO_STATION, NO_ADDRESS where the NAME's is not known.
         """
-        to = number_of("to", to, 255)
+        pgn = number_of("pgn", pgn, 2**32 - 1, most_is_refused=True)
         with self._lock:
-            done(library.hidzgula_live_shared_ask(self._station, to, number_of("pgn", pgn, 2**32 - 1, most_is_refused=True)))
+            done(library.hidzgula_live_shared_ask(self._station, self._address(to, name), pgn))
+
+    def send(self, to: Optional[int] = None, pgn: Any = None, data: Octets = b"", *, name: Optional[int] = None) -> Any:
+        """Gives a message of a group that is shared to be sent, of 0 to 1,785 bytes, to an address, to all (255), or to the unit of a NAME: `next` gives
+        its frames, and `sent` tells what came of it. Up to eight bytes go in one frame, more by a broadcast or a session. One goes at a time.
+
+        Raises Refused NO_GROUP where it is not shared or no identifier carries it, NOT_HELD, TOO_LONG, NOT_AN_ADDRESS where it cannot go there,
+        SESSION_OPEN while another, or for a broadcast a command, is under way, NO_STATION, NO_ADDRESS where the NAME's is not known, and MemoryError.
+        """
+        pgn, data = number_of("pgn", pgn, 2**32 - 1, most_is_refused=True), octets_of(data)
+        with self._lock:
+            done(library.hidzgula_live_shared_send(self._station, self._address(to, name), pgn, data, len(data)))
+
+    @property
+    def sent(self) -> Sent:
+        """What came of the newest message that was given to be sent.
+
+        Raises Refused NO_STATION.
+        """
+        what, reason = ctypes.c_uint8(), ctypes.c_uint8()
+        with self._lock:
+            done(library.hidzgula_live_shared_sent(self._station, what, reason))
+        delivery = Delivery(what.value)
+        return Sent(delivery, reason.value if delivery == Delivery.ABORTED else None)
+
+    def _address(self, to: Optional[int], name: Optional[int]) -> int:
+        """The address that is given, or that of a NAME."""
+        if (to is None) == (name is None):
+            raise TypeError("either an address or a NAME is to be given")
+        if name is None:
+            return number_of("to", to, 255)
+        row = RowRecord()
+        status = library.hidzgula_live_row_of(self._station, number_of("name", name, 2**64 - 1), row)
+        if status not in (0, _NO_PLACE):
+            refuse(status)
+        if status or not row.has_address:
+            refuse(_NO_ADDRESS)
+        return row.address
 
     @property
     def shared_message(self) -> Optional[SharedMessage]:

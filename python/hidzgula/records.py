@@ -408,6 +408,35 @@ class SharedMessage(NamedTuple):
     """Up to 1,785 bytes."""
 
 
+class Delivery(enum.IntEnum):
+    """What came of a message that a live station was given to send."""
+
+    NONE = 0
+    """None was given."""
+    OPEN = 1
+    """It is under way."""
+    WRITTEN = 2
+    """Its one frame, or all of a broadcast, was written."""
+    ACKNOWLEDGED = 3
+    """Its receiver acknowledged all of it."""
+    ABORTED = 4
+    """Its receiver aborted it."""
+    SILENT = 5
+    """Its receiver said nothing in time: it was aborted, for reason 3."""
+    ASKED_TOO_OFTEN = 6
+    """Its receiver asked for the same packet a third time: it was aborted, for reason 5."""
+    CUT_OFF = 7
+    """Another NAME claimed the address that it goes to, or the station left its own."""
+
+
+class Sent(NamedTuple):
+    """What came of the newest message that a live station was given to send."""
+
+    delivery: Delivery
+    reason: Optional[int] = None
+    """Of ABORTED: for which reason."""
+
+
 class Verdict(NamedTuple):
     """What came of an order of a live station."""
 

@@ -5,14 +5,15 @@ from typing import Dict, NoReturn, Optional, Tuple, Union
 from .records import HeardFrames, TakenFrames
 
 OUT_OF_MEMORY = 33
+NO_ROOM = 44
 
 Row = Union[TakenFrames, HeardFrames]
 
 # The number that the library answers, its name in the header, and why.
 REFUSALS: Dict[int, Tuple[str, str]] = {
     1: ("ID_TOO_LARGE", "an identifier of 2^29 or more"),
-    2: ("TOO_LONG", "more than 8 bytes in a frame"),
-    7: ("NOT_AN_ADDRESS", "254 or more where an address to hold is asked for"),
+    2: ("TOO_LONG", "more than 8 bytes in a frame, or 1,785 in a message"),
+    7: ("NOT_AN_ADDRESS", "254 or more where an address to hold is asked for, or a message that cannot go to that address"),
     22: ("NO_ADDRESS", "the station knows no address of that NAME"),
     23: ("NOT_HELD", "it holds no address of its own"),
     24: ("BAD_SETTING", "an address above 253, a grant of 0, or a setting out of its range"),
@@ -30,12 +31,14 @@ REFUSALS: Dict[int, Tuple[str, str]] = {
     35: ("NO_UNIT", "the unit is closed"),
     36: ("HAS_UNIT", "the handle has an open unit"),
     37: ("QUEUE_FULL", "as much waits to be written as there is room for"),
-    38: ("SESSION_OPEN", "a session of that kind is open"),
+    38: ("SESSION_OPEN", "a session of that kind is open, or a message or command is under way"),
     39: ("NOT_PENDING", "the code to go away is not pending"),
     40: ("NO_LISTENER", "the listener is closed"),
     41: ("HAS_LISTENER", "the handle has an open listener"),
-    42: ("ORDER_OPEN", "another order is open"),
-    43: ("NO_GROUP", "a parameter group that no order asks for, or by which one does not clear"),
+    42: ("ORDER_OPEN", "another order is open, or, for a command, a broadcast is under way"),
+    43: ("NO_GROUP", "a parameter group that no order asks for, by which one does not clear, or which is not shared"),
+    NO_ROOM: ("NO_ROOM", "the array is too short for what is saved"),
+    45: ("NOT_SAVED", "a station that took what is saved would show something else"),
 }
 
 

@@ -33,7 +33,8 @@ from .records import (
     Unit,
     What,
 )
-from .refusals import Refused, refuse
+from .refusals import NO_ROOM, Refused, refuse
+from .saving import Saved, read, written
 
 Octets = Union[bytes, bytearray, memoryview]
 
@@ -44,11 +45,46 @@ AT_ONCE = 4096
 # A frame in the library's layout.
 FRAME = struct.Struct("<IB8s3x")
 _CHANGE = struct.Struct("<QQIIBBBBBBBx")
+_BAD_SETTING = 24
 _WHAT_AT = ChangeRecord.what.offset
 _LISTED = What.LISTED.value
 _SOMETHING = re.compile(rb"[^\x00]")
 _WHATS = {what.value: what for what in What}
 _KINDS: Dict[int, Optional[Kind]] = {0: None, **{kind.value: kind for kind in Kind}}
+
+
+class Ceiling:
+    """How many NAMEs a station or a listener has at most, if that is bounded, and how often it was begun anew for it."""
+
+    def __init__(self, most: Optional[int], make_room: Callable[..., int], *counts: Callable[..., int]) -> None:
+        """make_room: the library's call. counts: those that tell how many there are.
+
+        Raises Refused BAD_SETTING for 0.
+        """
+        self.most = None if most is None else number_of("most", most, 2**64 - 1)
+        if self.most == 0:
+            refuse(_BAD_SETTING)
+        self.begun_anew = 0
+        self._make_room, self._counts = make_room, counts
+
+    def make_room(self, of: Any, times: int = 1) -> int:
+        """Makes room for one more NAME in a record of the library, of so many times the most; answers 0, or why that was refused."""
+        if self.most is None:
+            return 0
+        anew = ctypes.c_uint8()
+        status = self._make_room(of, min(self.most * times, 2**64 - 1), anew)
+        self.begun_anew += anew.value
+        return status
+
+    def room(self, of: Any) -> int:
+        """For how many frames there is room: each adds one NAME at most."""
+        if self.most is None:
+            return AT_ONCE
+        there, room = ctypes.c_size_t(), AT_ONCE
+        for count in self._counts:
+            count(of, there)
+            room = min(room, max(0, self.most - there.value))
+        return room
 
 
 class Queries(NamedTuple):
@@ -61,15 +97,24 @@ class Queries(NamedTuple):
     entries: Any
     entry: Any
     code: Any
+    save: Any
 
 
 class Known:
     """What a station knows of units, of its own address, and of what it could not read."""
 
     _calls: Queries
+    _is_live = False
+    _name: int
     _station: Any
     _lock: Any
     _keep: int
+    _ceiling: Ceiling
+
+    @property
+    def begun_anew(self) -> int:
+        """How often it was begun anew, since it had as many NAMEs as it may have (`most`)."""
+        return self._ceiling.begun_anew
 
     @property
     def address(self) -> Optional[int]:
@@ -144,6 +189,24 @@ class Known:
             done(self._calls.counts(self._station, missed, unread))
         return Counts(missed.value, unread.value)
 
+    def save(self) -> bytes:
+        """What it knows, for `restore` when the program is started again: NAMEs in their order, their last acknowledgments, and the messages that are kept of
+        each list. Addresses are not saved: they come back by claims. It is a text of a line for each frame that a station reads of a bus on which it came to
+        know that, with a CRC-32.
+
+        Raises Refused NO_STATION, NOT_HELD where it holds no address, NOT_SAVED, and MemoryError.
+        """
+        has, address, count = ctypes.c_uint8(), ctypes.c_uint8(), ctypes.c_size_t()
+        with self._lock:
+            done(self._calls.held(self._station, has, address))
+            records = (FrameRecord * AT_ONCE)()
+            status = self._calls.save(self._station, records, len(records), count)
+            if status == NO_ROOM:
+                records = (FrameRecord * count.value)()
+                status = self._calls.save(self._station, records, len(records), count)
+            done(status)
+        return written(self._is_live, Saved(self._name, address.value, self._keep, records[: count.value]))
+
     def _count(self, name: int, kind: int) -> int:
         count = ctypes.c_uint64()
         done(self._calls.entries(self._station, name, kind, count))
@@ -181,17 +244,23 @@ class Station(Known):
         library.hidzgula_entries,
         library.hidzgula_entry,
         library.hidzgula_code,
+        library.hidzgula_save,
     )
 
-    def __init__(self, name: int, address: int, *, grant: int = 255, keep: Optional[int] = None, **more: Any) -> None:
+    def __init__(
+        self, name: int, address: int, *, grant: int = 255, keep: Optional[int] = None, most: Optional[int] = None, **more: Any
+    ) -> None:
         """Opens a station that has read nothing.
 
         name: its NAME, 64 bits (SAE J1939-81).
         address: which it holds, 0 to 253.
         grant: how many packets it lets a sender send at once, 1 to 255 (SAE J1939-21).
         keep: of each list the newest so many messages are kept, 0 to 2^32 - 1, and all are counted; None for all.
+        most: how many NAMEs it has at most, 1 or more; None for all. Where it has as many, the next frame begins it anew: it goes on at its
+            address with the NAMEs that hold others, if these are fewer, and without any other row, list or count (`begun_anew`). Where it
+            holds no address then, the frame is refused, NOT_HELD: it is to be closed, and opened at another one.
 
-        Raises Refused BAD_SETTING for an address above 253 or a grant of 0, and MemoryError.
+        Raises Refused BAD_SETTING for an address above 253, a grant of 0 or `most` 0, and MemoryError.
         """
         if "listening" in more:
             raise TypeError("a station takes part in the bus; for one who only listens there is hidzgula.Listener()")
@@ -204,8 +273,38 @@ class Station(Known):
         self._name = name = number_of("name", name, 2**64 - 1)
         address = number_of("address", address, 255, most_is_refused=True)
         kept = number_of("keep", KEEP_ALL if keep is None else keep, KEEP_ALL)
+        self._ceiling = Ceiling(most, library.hidzgula_make_room, library.hidzgula_rows)
         done(library.hidzgula_open(self._station, name, address, number_of("grant", grant, 255), kept))
         self._keep = kept
+
+    @classmethod
+    def restore(cls, saved: Octets, *, grant: int = 255) -> "Station":
+        """Opens a station that knows what another one saved, of the same NAME, address and `keep`: units without addresses, which come back by claims, and
+        the messages that were kept; their places and the counts begin anew, with one frame missed. Behind it go `claim` and, to all, a request for their
+        claims: `ask_all(PGN_ADDRESS_CLAIMED)`.
+
+        Raises ValueError for what was not saved of a station, in another version, or was cut or changed; Refused BAD_SETTING for a grant of 0; and
+        MemoryError. Then nothing is open.
+        """
+        it = read(False, saved)
+        station = cls(it.name, it.address, grant=grant, keep=it.keep)
+        try:
+            station._take_saved((FrameRecord * len(it.frames))(*it.frames))
+        except BaseException:
+            station.close()
+            raise
+        return station
+
+    def _take_saved(self, frames: Any) -> None:
+        first, taken = ctypes.addressof(frames), 0
+        changes = (ChangeRecord * AT_ONCE)()
+        with self._lock:
+            while taken < len(frames):
+                one = ctypes.c_size_t()
+                place = first + taken * FRAME.size
+                done(library.hidzgula_take_frames(self._station, place, len(frames) - taken, changes, len(changes), self._reply, one))
+                taken += one.value
+            done(library.hidzgula_take_gap_telling(self._station, 1, self._reply, self._change))
 
     def close(self) -> None:
         """Closes the station and frees its memory; every other call is then Refused, NO_STATION. Closing twice does nothing."""
@@ -243,12 +342,13 @@ class Station(Known):
 
         Frames with 11-bit identifiers, remote frames, error frames and frames of CAN FD are not handed over; nor are the station's own.
 
-        Raises Refused ID_TOO_LARGE, TOO_LONG, NO_STATION, and MemoryError: then the frame may be handed over again, or be counted as
-        missed.
+        Raises Refused ID_TOO_LARGE, TOO_LONG, NO_STATION, NOT_HELD (`most`), and MemoryError: then the frame may be handed over again, or be
+        counted as missed.
         """
         id = number_of("id", id, 2**32 - 1, most_is_refused=True)
         data = octets_of(data)
         with self._lock:
+            done(self._ceiling.make_room(self._station))
             done(library.hidzgula_take_frame_telling(self._station, id, data, len(data), self._reply, self._change))
             return Taken(_reply_of(self._reply), change_of(self._change))
 
@@ -257,9 +357,9 @@ class Station(Known):
 
         It stops behind the first one that the station replies to, so that the reply can be sent before the next is taken. `count` tells how many were taken: `start + count` is the next place.
 
-        Raises Refused ID_TOO_LARGE, TOO_LONG, NO_STATION, and MemoryError, at the first frame that is refused: those before it are taken,
-        and the error's `taken` tells of them, so `start + taken.count` is the place of the one that was refused. Where a frame is no
-        pair of a number and bytes, a TypeError or ValueError is raised before any is taken.
+        Raises Refused ID_TOO_LARGE, TOO_LONG, NO_STATION, NOT_HELD (`most`), and MemoryError, at the first frame that is refused: those before it
+        are taken, and the error's `taken` tells of them, so `start + taken.count` is the place of the one that was refused. Where a frame is
+        no pair of a number and bytes, a TypeError or ValueError is raised before any is taken.
         """
         packed = packed_frames(frames, start)
         held = (FrameRecord * (len(packed) // FRAME.size)).from_buffer(packed)
@@ -278,8 +378,14 @@ class Station(Known):
         with self._lock:
             while True:
                 one = ctypes.c_size_t(0)
-                status = library.hidzgula_take_frames(
-                    self._station, first + taken * FRAME.size, count - taken, records, len(records), self._reply, one
+                status = self._ceiling.make_room(self._station) or library.hidzgula_take_frames(
+                    self._station,
+                    first + taken * FRAME.size,
+                    count - taken,
+                    records,
+                    min(len(records), self._ceiling.room(self._station)),
+                    self._reply,
+                    one,
                 )
                 _add_changes(changes, records, one.value, start + taken)
                 taken += one.value

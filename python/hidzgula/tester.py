@@ -6,8 +6,10 @@ from typing import Any, Optional
 
 from .candump import is_overflow
 from .live import LiveStation
-from .records import Verdict
+from .records import Delivery, Sent, Verdict
 from .refusals import Refused
+from .saving import Saved, read
+from .station import Octets
 
 _LOOKS = 20_000
 
@@ -23,13 +25,15 @@ class Tester(LiveStation):
     after the other.
     """
 
-    def __init__(self, bus: Any, name: int, address: int, **settings: Any) -> None:
+    def __init__(self, bus: Any, name: int, address: int, *, _saved: Optional[Saved] = None, **settings: Any) -> None:
         """bus: on which it is. name, address, settings: as `LiveStation` has them, and raises."""
         import can
 
         if not callable(getattr(bus, "send", None)) or not callable(getattr(bus, "recv", None)):
             raise TypeError(f"bus is a bus of python-can, and not {bus!r}")
         super().__init__(name, address, **settings)
+        if _saved is not None:
+            self._hear_saved(_saved.frames, _now())
         self.error: Optional[BaseException] = None
         """What ended its thread, as an error of the bus."""
         self.unheard = 0
@@ -37,10 +41,16 @@ class Tester(LiveStation):
         self._can = can
         self._bus = bus
         self._ended = threading.Event()
-        self._ordering = threading.Lock()
+        self._ordering, self._sending = threading.Lock(), threading.Lock()
         self._told = threading.Condition()
         self._thread = threading.Thread(target=self._run, name=f"tester {name:016X}", daemon=True)
         self._thread.start()
+
+    @classmethod
+    def restore(cls, bus: Any, saved: Octets, **settings: Any) -> "Tester":  # type: ignore[override]
+        """Puts one on a bus that knows what another one saved, as `LiveStation.restore` has it, and raises."""
+        it = read(True, saved)
+        return cls(bus, it.name, it.address, keep=it.keep, _saved=it, **settings)
 
     def close(self) -> None:
         """Ends its thread, and closes the station; an order that another thread waits for is cut off. The bus stays open. Closing twice does nothing."""
@@ -84,6 +94,28 @@ class Tester(LiveStation):
         """
         return self._waited(super().command, name, address)
 
+    def send(self, to: Optional[int] = None, pgn: Any = None, data: Octets = b"", *, name: Optional[int] = None) -> Sent:
+        """Sends a message of a group that is shared, to an address, to all (255), or to the unit of a NAME, and answers what came of it: after the
+        receiver's last word, or 1.25 s behind the one before. Where the tester is closed meanwhile it was cut off.
+
+        Raises what `LiveStation.send` does, but for SESSION_OPEN while another message is; and what the bus raised.
+        """
+        with self._sending:
+            super().send(to, pgn, data, name=name)
+            with self._told:
+                self._told.wait_for(lambda: self._ended.is_set() or self.error is not None or self._came() is not None)
+            if self.error is not None:
+                raise self.error
+            return self._came() or Sent(Delivery.CUT_OFF)
+
+    def _came(self) -> Optional[Sent]:
+        """What came of the newest message; None while it is under way, and where the station is closed."""
+        try:
+            sent = self.sent
+        except Refused:
+            return None
+        return sent if sent.delivery != Delivery.OPEN else None
+
     def _waited(self, order: Any, *words: int) -> Verdict:
         """Gives an order, and waits for its verdict."""
         with self._ordering:
@@ -116,9 +148,8 @@ class Tester(LiveStation):
             self._bus.send(self._can.Message(arbitration_id=frame.id, data=frame.data, is_extended_id=True))
         at = self.when(now)
         self._read(min(_LOOKS, _LOOKS if at is None else at - now) / 1_000_000)
-        if not self.is_open:
-            with self._told:
-                self._told.notify_all()
+        with self._told:
+            self._told.notify_all()
 
     def _read(self, seconds: float) -> None:
         """Reads a message, if one comes within a time."""

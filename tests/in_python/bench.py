@@ -34,6 +34,12 @@ def texts(bus, since=0):
     return [f"{put.time} {put.frame}" for put in list(bus.frames)[since:]]
 
 
+def said(call, *words, **more):
+    """The error that a call raises, by its type and its words."""
+    error = raised(call, *words, **more)
+    return f"{type(error).__name__}: {error}"
+
+
 def told(call, *words, **more):
     """The words of the difference that an assertion tells; none where it holds."""
     error = raised(call, *words, **more)
@@ -66,6 +72,11 @@ def time_and_order():
         same("a message ends it", (bytes(msg.data), msg.timestamp, bus.now), (b"\7", 2.75, 2_750_000))
         bus.sleep(0.25)
         same("sleep runs it", bus.now, 3_000_000)
+        since = bus.count
+        one.send(message("18FECA00#09"))
+        one.flush_tx_buffer()
+        bus.sleep(0)
+        same("what waits goes no more once the buffer is emptied", bus.count, since)
         heard = []
         one.add_listener(lambda msg: heard.append((bus.now, msg.arbitration_id)))
         timer = bus.every(0.1, bus.send, "18FECA00#08")
@@ -106,60 +117,64 @@ def bit_rate():
         same("one after the other", texts(bus), ["524 18FECA00#0102030405060708", "712 100#", "1012 0CF00400#01", "1280 18FECA01#"])
         same("the own one at its end", one.recv(0).timestamp, 0.000524)
     for rate in (0, 999, 1_000_001):
-        same("no such rate", type(raised(Bench, bitrate=rate)), ValueError)
+        same("no such rate", said(Bench, bitrate=rate), f"ValueError: bitrate is {rate}, and may be 1,000 to 1,000,000 bits a second")
 
 
 def errors():
     with Bench(now=5_000_000) as bus:
         unit = bus.unit(name=ENGINE, address=0)
         for what, call, words, more, wanted in (
-            ("a NAME that is taken", bus.unit, (ENGINE, 1), {}, "the NAME 1000000001419907 is taken"),
+            ("a NAME that is taken", bus.unit, (ENGINE, 1), {}, f"the NAME 1000000001419907 is taken, by {unit!r}: no two units of a bus have one NAME (SAE J1939-81)"),
             ("by a station", bus.station, (ENGINE, 1), {}, "the NAME 1000000001419907 is taken"),
-            ("a unit without an address", bus.unit, (), {"name": BRAKE}, "a unit needs an address"),
+            ("a unit without an address", bus.unit, (), {"name": BRAKE}, f"a unit needs an address, 0 to 253: unit(name=0x{BRAKE:016X}, address=128)"),
             ("a NAME of 65 bits alone", bus.unit, (1 << 64,), {}, "name is 18446744073709551616"),
-            ("a unit without a NAME", bus.unit, (), {"address": 4}, "a unit needs a NAME"),
+            ("a unit without a NAME", bus.unit, (), {"address": 4}, "a unit needs a NAME of 64 bits: unit(name=0x1000000001419907, address=128)"),
             ("an address that none holds", bus.unit, (BRAKE, 254), {}, "BAD_SETTING"),
             ("a NAME of 65 bits", bus.unit, (1 << 64, 4), {}, "name is 18446744073709551616"),
-            ("time that runs back", bus.run, (-0.1,), {}, "-0.1 seconds: time does not run back"),
-            ("until what was", bus.run, (), {"until": 4}, "time runs back"),
-            ("time without end", bus.run, (float("inf"),), {}, "inf seconds"),
+            ("time that runs back", bus.run, (-0.1,), {}, "-0.1 seconds: time does not run back, and has an end"),
+            ("until what was", bus.run, (), {"until": 4}, "time runs back: it is 5.000000 s, and to be run until 4 s"),
+            ("time without end", bus.run, (float("inf"),), {}, "inf seconds: time does not run back, and has an end"),
             ("no time", bus.run, (), {}, "run takes seconds, or until"),
-            ("a period of nothing", bus.every, (0, print), {}, "a period has"),
-            ("no frame", bus.send, ("18FECA00",), {}, "'18FECA00' is no frame"),
+            ("a period of nothing", bus.every, (0, print), {}, "a period has one microsecond at least"),
+            ("no frame", bus.send, ("18FECA00",), {}, "'18FECA00' is no frame: 8 or 3 digits of identifier, # and the bytes, as 18FECA80#04FF6E000001FFFF"),
             ("an odd digit", bus.send, ("18FECA00#1",), {}, "'18FECA00#1' is no frame"),
-            ("nine bytes", bus.send, ("18FECA00#" + 18 * "0",), {}, "9 bytes in a frame"),
-            ("30 bits", bus.send, ("3FFFFFFF#00",), {}, "an identifier of 3FFFFFFF"),
-            ("who is not on it", bus.unplug, (hidzgula.bench.members.Hand(),), {}, "<hidzgula.bench.members.Hand"),
-            ("no code", assert_dm1, (bus, ENGINE, [(1,)]), {}, "(1,) is no code"),
+            ("nine bytes", bus.send, ("18FECA00#" + 18 * "0",), {}, "9 bytes in a frame, which has 8 at most"),
+            ("30 bits", bus.send, ("3FFFFFFF#00",), {}, "an identifier of 3FFFFFFF: 29 bits are wanted"),
+            ("12 bits", bus.send, ("FFF#00",), {}, "an identifier of FFF: 11 bits are wanted"),
+            ("who is not on it", bus.unplug, (hidzgula.bench.members.Hand(),), {}, " is not on this bus"),
+            ("no code", assert_dm1, (bus, ENGINE, [(1,)]), {}, "(1,) is no code: (SPN, FMI) or (SPN, FMI, count), SPN 0 to 524,287, FMI 0 to 31"),
             ("an SPN of 20 bits", assert_dm1, (bus, ENGINE, [(1 << 19, 0)]), {}, "(524288, 0) is no code"),
-            ("no lamp", assert_dm1, (bus, ENGINE, []), {"lamps": "red"}, "'red' is no lamp"),
+            ("no lamp", assert_dm1, (bus, ENGINE, []), {"lamps": "red"}, "'red' is no lamp: mil, stop, amber, protect, or 'no lamp'"),
         ):
             error = raised(call, *words, **more)
             same(what, (isinstance(error, ValueError), wanted in str(error)), (True, True))
-        same("of nobody", type(raised(assert_dm1, 5, ENGINE, [])), TypeError)
+        same("of nobody", said(assert_dm1, 5, ENGINE, []), "TypeError: codes are asserted of a bench, a station or a listener, and not of 5")
         same("nothing was changed", (bus.now, bus.count, len(bus._members)), (5_000_000, 0, 2))
         channel = bus.channel()
         for what, more in (("remote", {"is_remote_frame": True}), ("error", {"is_error_frame": True}), ("FD", {"is_fd": True})):
-            same(what, type(raised(channel.send, message("18FECA00#00", **more))), ValueError)
-        same("who is called wrong", type(raised(channel.add_listener, 5)), TypeError)
+            same(what, said(channel.send, message("18FECA00#00", **more)), "ValueError: a bench carries data frames of CAN 2.0: no remote, error or FD frames")
+        same("who is called wrong", said(channel.add_listener, 5), "TypeError: a listener is a function, or a Listener of python-can, and not 5")
         found = []
         bus.after(0.5, lambda: found.append(raised(bus.run, 1)))
-        bus.after(0.5, lambda: found.append(raised(channel.recv, 1)))
+        empty = bus.channel()
+        bus.after(0.5, lambda: (list(iter(lambda: empty.recv(0), None)), found.append(raised(empty.recv, 1))))
         bus.run(seconds=1)
-        same("no run in a run", [type(it) for it in found[:1]], [RuntimeError])
+        same("no run in a run", [f"{type(it).__name__}: {it}" for it in found], [
+            "RuntimeError: a bench is run by the thread that made it, and not from within a run",
+            "RuntimeError: recv in a function that the bench calls: time stands meanwhile; use recv(timeout=0), or start the program by Bench.start"])
         thread = threading.Thread(target=lambda: found.append(raised(bus.run, 1)))
         thread.start()
         thread.join()
         same("nor in another thread", type(found[-1]), RuntimeError)
         channel.shutdown()
-        same("who was shut down sends nothing", type(raised(channel.send, message("18FECA00#00"))), ValueError)
+        same("who was shut down sends nothing", said(channel.send, message("18FECA00#00")), f"ValueError: {channel.called} was shut down")
         one, other = bus.channel(), bus.channel()
         for member, answer in ((one, "18FEF100#01"), (other, "18FEF100#02")):
             member.add_listener(lambda msg, member=member, answer=answer: member.send(message(answer)))
         bus.send("18FEF100#00")
         same("answers without end", "who answers whom" in str(raised(bus.run, 1)), True)
         bus.unplug(unit)
-    same("closed", (type(raised(bus.run, 1)), bus.close(), raised(unit.set, 1, 1).name), (ValueError, None, "NO_UNIT"))
+    same("closed", (said(bus.run, 1), bus.close(), raised(unit.set, 1, 1).name), ("ValueError: the bench is closed", None, "NO_UNIT"))
 
 
 def programs():
@@ -238,12 +253,16 @@ def devices():
         bus.run(seconds=5)
         same("who is unplugged is called no more", (len(heard), bus.count), (5, 7))
         same("of what it is called", (device.called, bus.device(gateway, called="pump").called), ("device 1", "pump"))
-    for what, answer in (("a frame that stands alone", (1, b"")), ("a number", 5), ("no frame", ["18FEF101"]), ("nine bytes", [(1, bytes(9))]), ("of four", [(1, b"", True, 0)]), ("a text", "18FEF101#")):
+    lists = "which is none: wanted is a list of frames, each as 18FECA80#04FF or (0x18FECA80, bytes)"
+    digits, most = "is no frame: 8 or 3 digits of identifier, # and the bytes, as 18FECA80#04FF6E000001FFFF", "9 bytes in a frame, which has 8 at most"
+    for what, answer, wanted in (("a frame that stands alone", (1, b""), lists), ("a number", 5, lists), ("no frame", ["18FEF101"], digits), ("nine bytes", [(1, bytes(9))], most),
+                                 ("of four", [(1, b"", True, 0)], lists), ("a text", "18FEF101#", lists)):
         with Bench() as bus:
             bus.device(lambda frame, now, answer=answer: answer)
             bus.send("18FEF200#")
-            same(what, type(raised(bus.run, 1)), ValueError)
-            same("a period of nothing", type(raised(bus.device, print, each=0)), ValueError)
+            told_so = said(bus.run, 1)
+            same(what, (told_so.split(":")[0], told_so.endswith(wanted)), ("ValueError", True))
+            same("a period of nothing", said(bus.device, print, each=0), "ValueError: a period has one microsecond at least")
 
 
 def units():
@@ -252,6 +271,7 @@ def units():
         unit = bus.unit(name=ENGINE, address=128)
         bus.run(seconds=1)
         same("it claims", [str(it) for it in station.units()], [f"{ENGINE:016X} at 128"])
+        same("the station claims and asks all for theirs", [str(put.frame) for put in bus.frames if put.by == station.called], ["18EEFFF9#0100000000000000", "18EAFFF9#00EE00"])
         assert_dm1(bus, unit, None)
         unit.set(110, 0)
         unit.lamps(0x04)
@@ -271,6 +291,9 @@ def units():
         assert_dm2(station, unit, [(110, 0)])
         assert_dm6(bus, unit, [(520, 3)])
         same("what never comes", (type(raised(bus.wait_for, BRAKE, DM1, 1)), "18FECA80" in str(raised(bus.wait_for, BRAKE, DM1, 1))), (TimeoutError, True))
+        reply, counted = station.ask_all(PGN_DM2), station.count(ENGINE, hidzgula.DM2)
+        bus.run(seconds=1)
+        same("all are asked", ([str(it) for it in reply.frames], station.count(ENGINE, hidzgula.DM2)), (["18EAFFF9#CBFE00"], counted + 1))
         station.command(ENGINE, 9)
         bus.run(seconds=1)
         same("it is commanded", [unit.address for unit in station.units()], [9])
@@ -301,6 +324,7 @@ def differences():
         bus.run(seconds=2)
         text = told(assert_dm1, station, unit, [(110, 0), (191, 2)], "amber")
         found = bus.since(ENGINE, DM1)
+        same("which one it is", found.message, bus.listener.newest(ENGINE, DM1))
         gone, codes = found.gone[110, 0], found.codes[190, 2]
         same("since when", (3_000_000 <= gone <= 3_500_000, gone == codes, found.lamps >= gone, found.newest > gone), (True, True, True, True))
 

@@ -282,6 +282,57 @@ def told():
                 same(f"{of.__name__}.{called} has types", "return" in typing.get_type_hints(it), True)
 
 
+def claims(first, count):
+    """Claims of so many NAMEs, each from an address of its own, and a DM1 behind each."""
+    for at in range(first, first + count):
+        yield 0x18EEFF00 | at % 200, (0x8000000000000000 | at).to_bytes(8, "little")
+        yield 0x18FECA00 | at % 200, bytes.fromhex("04FF6E000301FFFF")
+
+
+def ceilings():
+    """With `most`, a station, a live station and a listener never have more NAMEs; they go on with those that hold addresses; and refuse 0."""
+    frames = [*claims(0, 1500)]
+    for of in (Station(1, 249, most=500, keep=2), Listener(most=500, keep=2)):
+        with of:
+            rows = 0
+            for frame in frames:
+                of.take(*frame)
+                rows = max(rows, len(of.units()))
+            same(f"{of!r}: the most NAMEs, and how often begun anew", (rows, of.begun_anew), (500, 4))
+            same(f"{of!r}: the last NAME's list", of.count(0x8000000000000000 | 1499, DM1), 1)
+            same(f"{of!r}: addresses", len([it for it in of.units() if it.address is not None]), 200)
+    for of in (Station(1, 249, most=500, keep=2), Listener(most=500, keep=2)):
+        with of:
+            taken = of.take_frames(frames)
+            same(f"{of!r}: in rows", (taken.count, of.begun_anew, len(of.units()) <= 500), (3000, 4, True))
+    with Listener(most=3) as of:
+        unclaimed = [0x18FECAF0, bytes.fromhex("04FF6E000301FFFF")]
+        seen = [of.take(*unclaimed).who, *(of.take(*frame).who for frame in frames[:4]), of.take(*unclaimed).who]
+        same("who is unclaimed before and behind a new beginning", (seen[0].gaps, seen[-1].gaps, of.begun_anew), (0, 1, 1))
+    with hidzgula.LiveStation(1, 249, most=500) as live:
+        for now, frame in enumerate(frames):
+            live.hear(*frame, now * 1000)
+        same("a live station", (live.begun_anew, len(live.units()), live.address), (4, 300, 249))
+    with hidzgula.LiveStation(1, 249, most=500) as live:
+        live.ask(5, DM1)
+        for now, frame in enumerate(frames[:1999]):
+            live.hear(*frame, now * 1000)
+        same("an open order keeps it", (live.begun_anew, len(live.units()), live.is_open), (0, 1000, True))
+        live.hear(*frames[1999], 1999000)
+        same("up to twice as many", (live.begun_anew, len(live.units()), live.verdict.finding), (1, 200, hidzgula.Finding.CUT_OFF))
+    with Station(0x10, 249, most=1) as lost:
+        lost.take(0x18EEFFF9, bytes(8))
+        same("without an address", raised(lost.take, 0x18EEFFF9, bytes(8)).name, "NOT_HELD")
+        refused = raised(lost.take_frames, frames)
+        same("without an address, in rows", (refused.name, refused.taken.count), ("NOT_HELD", 0))
+    for of in (lambda: Station(1, 249, most=0), lambda: Listener(most=0), lambda: hidzgula.LiveStation(1, 249, most=0)):
+        same("none at most", raised(of).name, "BAD_SETTING")
+    same("no number", type(raised(Listener, most="many")), TypeError)
+    with Station(1, 249) as plain:
+        plain.take_frames(frames)
+        same("without `most`", (plain.begun_anew, len(plain.units())), (0, 1500))
+
+
 read_logs()
 as_watch()
 heard()
@@ -289,6 +340,7 @@ broken()
 in_rows()
 changes()
 kept()
+ceilings()
 layouts()
 told()
 sums()

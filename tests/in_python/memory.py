@@ -83,10 +83,10 @@ for one in range(opening + 1, total + 1):
 
 
 def station_of(one):
-    """A station that takes a claim and a message, and orders; which requests were refused."""
+    """A station that takes a claim and a message, and orders, and is saved, and one that is restored; which requests were refused."""
     found = 0
     steps = [("take", (0x18EEFF07, bytes([0xA0] + 7 * [0]))), ("take", (0x18FECA07, bytes.fromhex("04FFB8040301FFFF"))), ("ask", (0xA0, hidzgula.PGN_DM2)),
-             ("ask_all", (hidzgula.PGN_DM2,)), ("command", (0xA0, 100)), ("missed", (1,))]
+             ("ask_all", (hidzgula.PGN_DM2,)), ("command", (0xA0, 100)), ("missed", (1,)), ("save", ())]
     refuse(one)
     while True:
         try:
@@ -105,9 +105,19 @@ def station_of(one):
                     found += 1
                     same(f"{call} without memory changes nothing", all_told(station), before)
         same("its list", station.count(0xA0, hidzgula.DM1), 1)
-    return found
+    while True:
+        try:
+            with Station.restore(SAVED) as station:
+                same("its list, restored", station.count(0xA0, hidzgula.DM1), 1)
+            return found
+        except MemoryError:
+            found += 1
 
 
+with Station(1, 248) as station:
+    station.take(0x18EEFF07, bytes([0xA0] + 7 * [0]))
+    station.take(0x18FECA07, bytes.fromhex("04FFB8040301FFFF"))
+    SAVED = station.save()
 same("a station without refusal", station_of(0), 0)
 total = requests()
 same("takes memory", total > 5, True)

@@ -36,6 +36,12 @@ def mistyped(what, told, call, *words, **named):
     same(what, (type(error), str(error)[: len(told)]), (TypeError, told))
 
 
+def no_copy(of, called):
+    """It is in one place alone."""
+    for call in (copy.copy, copy.deepcopy, pickle.dumps):
+        mistyped(f"{call.__name__} of {called}", f"{called} cannot be copied", call, of)
+
+
 def by_arguments(station):
     before = all_told(station)
     for id in (2**29, 2**32 - 1, 2**32, 2**70):
@@ -98,11 +104,13 @@ def beyond_types(station):
         mistyped("a station that only listens", "a station takes part in the bus; for one who only listens there is hidzgula.Listener()", Station, 1, 2, listening=listening)
     mistyped("another setting", "a station has no grants", Station, 1, 2, grants=3)
     mistyped("a log that is none", "a log is a file, its bytes or its lines, and not 5", hidzgula.read_log(5).__next__)
+    for log in ("a.log", "(1.000000) can0 18FECA00#00\n"):
+        mistyped("a log that is a text", "a log is a file, its bytes or its lines, and no text: open the file", hidzgula.read_log(log).__next__)
     mistyped("a bus that is none", "bus is a str, and not b'can0'", hidzgula.read_log(b"", b"can0").__next__)
     for bad in (5, (1,), (1, b"", 2)):
         mistyped(f"the pair {bad}", f"a frame is a pair of an identifier and bytes, and not {bad!r}", station.take_frames, [(0x18FECA07, DATA), bad])
     mistyped("frames that are none", "frames is a sequence of pairs of an identifier and bytes, and not 5", station.take_frames, 5)
-    same("a copy", [type(raised(it, station)) for it in (copy.copy, copy.deepcopy, pickle.dumps)], 3 * [TypeError])
+    no_copy(station, "a station")
     same("nothing is changed", all_told(station), before)
 
 
@@ -129,6 +137,7 @@ def without_address():
         refused("asks", "NOT_HELD", station.ask, 0xA0, hidzgula.PGN_DM1)
         refused("asks all", "NOT_HELD", station.ask_all, hidzgula.PGN_DM1)
         refused("commands", "NOT_HELD", station.command, 0xA0, 9)
+        refused("saves", "NOT_HELD", station.save)
 
 
 def closed():
@@ -152,6 +161,7 @@ def closed():
         (station.message, (0xA0, DM1, 0)),
         (station.counts, ()),
         (lambda: station.address, ()),
+        (station.save, ()),
     ):
         refused(f"closed {call}", "NO_STATION", call, *words)
     with Station(1, 248) as left:
@@ -187,7 +197,7 @@ def of_listeners():
         error = refused("in a row", "TOO_LONG", listener.take_frames, [(0x18FECA07, DATA), (1, bytes(9))])
         same("what is before it is taken", (error.taken.count, len(error.taken.heard)), (1, 1))
         same("and nothing else", listener.count(0xA0, DM1), before[1][0][2] + 1)
-        same("no copy", [type(raised(call, listener)) for call in (copy.copy, copy.deepcopy, pickle.dumps)], 3 * [TypeError])
+        no_copy(listener, "a listener")
     for call, words in ((listener.take, (0, b"")), (listener.take_frames, ([],)), (listener.take_frames, ([(2**29, b"")],)), (listener.missed, (1,)), (listener.units, ()),
                         (listener.senders, ()), (listener.count, (1, 1)), (listener.messages, (1, 1)), (listener.newest, (1, 1)), (listener.message, (1, 1, 0)), (listener.counts, ())):
         refused(f"closed {call}", "NO_LISTENER", call, *words)
@@ -226,7 +236,7 @@ def of_units():
         refused("a full queue", "QUEUE_FULL", unit.begin, hidzgula.DM2)
         unit.hear(0x18EEFF80, bytes(8), 0)
         refused("without address", "NOT_HELD", unit.begin, hidzgula.DM2)
-        same("no copy", [type(raised(call, unit)) for call in (copy.copy, copy.deepcopy, pickle.dumps)], 3 * [TypeError])
+        no_copy(unit, "a unit")
     for call, words in ((unit.hear, (0, b"", 0)), (unit.next, (0,)), (unit.when, (0,)), (unit.set, (1, 1)), (unit.heal, (1, 1)), (unit.pend, (1, 1)),
                         (unit.unpend, (1, 1)), (unit.lamps, (0,)), (unit.begin, (1,)), (unit.counts, ()), (lambda: unit.address, ())):
         refused(f"closed {call}", "NO_UNIT", call, *words)
@@ -235,6 +245,7 @@ def of_units():
 
 def of_live_stations():
     with hidzgula.LiveStation(1, 249) as station:
+        no_copy(station, "a station")
         refused("a group", "NO_GROUP", station.ask, 0xA0, 65260)
         refused("a group of the station's", "NO_GROUP", station.share, 65226)
         refused("a group of 25 bits", "PGN_TOO_LARGE", station.share, 2**24)
@@ -246,14 +257,87 @@ def of_live_stations():
     refused("a group of the protocol", "NO_GROUP", hidzgula.LiveStation, 1, 249, share=(65260, 60928))
 
 
+BYTE, WORD, LONG, TIME = 2**8 - 1, 2**32 - 1, 2**64 - 1, 2**64 - 2
+# Each number that a call takes: which it is by its name, the call with it, the greatest that the library's type holds, and by what one beyond is refused;
+# where nothing stands it is a ValueError that tells what it may be.
+NUMBERS = (
+    ("name", lambda it: Station(it, 1), LONG, None), ("address", lambda it: Station(1, it), BYTE, "BAD_SETTING"), ("grant", lambda it: Station(1, 1, grant=it), BYTE, None),
+    ("keep", lambda it: Station(1, 1, keep=it), WORD, None), ("most", lambda it: Station(1, 1, most=it), LONG, None),
+    ("keep", lambda it: Listener(keep=it), WORD, None), ("most", lambda it: Listener(most=it), LONG, None),
+    ("name", lambda it: SimulatedUnit(it, 1), LONG, None), ("address", lambda it: SimulatedUnit(1, it), BYTE, "BAD_SETTING"),
+    ("gap", lambda it: SimulatedUnit(1, 1, gap=it), LONG, "BAD_SETTING"), ("settle", lambda it: SimulatedUnit(1, 1, settle=it), LONG, "BAD_SETTING"),
+    ("name", lambda it: hidzgula.LiveStation(it, 1), LONG, None), ("address", lambda it: hidzgula.LiveStation(1, it), BYTE, "BAD_SETTING"),
+    ("grant", lambda it: hidzgula.LiveStation(1, 1, grant=it), BYTE, None), ("keep", lambda it: hidzgula.LiveStation(1, 1, keep=it), WORD, None),
+    ("gap", lambda it: hidzgula.LiveStation(1, 1, gap=it), LONG, "BAD_SETTING"), ("settle", lambda it: hidzgula.LiveStation(1, 1, settle=it), LONG, "BAD_SETTING"),
+    ("most", lambda it: hidzgula.LiveStation(1, 1, most=it), LONG, None), ("now", lambda it: hidzgula.LiveStation.restore(hidzgula.LiveStation(1, 1).save(), it), LONG, None),
+    ("pgn", lambda it: hidzgula.LiveStation(1, 1, share=[it]), WORD, "PGN_TOO_LARGE"),
+)
+OF_STATIONS = (
+    ("id", lambda of, it: of.take(it, DATA), WORD, "ID_TOO_LARGE"), ("id", lambda of, it: of.take_frames([(it, DATA)]), WORD, "ID_TOO_LARGE"),
+    ("count", lambda of, it: of.missed(it), WORD, None), ("name", lambda of, it: of.ask(it, 65226), LONG, None), ("pgn", lambda of, it: of.ask(0xA0, it), WORD, "PGN_TOO_LARGE"),
+    ("pgn", lambda of, it: of.ask_all(it), WORD, "PGN_TOO_LARGE"), ("name", lambda of, it: of.command(it, 9), LONG, None),
+    ("address", lambda of, it: of.command(0xA0, it), BYTE, "NOT_AN_ADDRESS"), ("name", lambda of, it: of.messages(it, DM1), LONG, None),
+    ("kind", lambda of, it: of.count(0xA0, it), BYTE, "NO_KIND"), ("place", lambda of, it: of.message(0xA0, DM1, it), LONG, "NO_PLACE"),
+)
+OF_LISTENERS = (
+    ("id", lambda of, it: of.take(it, DATA), WORD, "ID_TOO_LARGE"), ("time", lambda of, it: of.take(1, DATA, it), TIME, None), ("count", lambda of, it: of.missed(it), WORD, None),
+    ("time", lambda of, it: of.missed(1, it), TIME, None), ("time", lambda of, it: of.take_frames([(1, DATA)], [it]), TIME, None),
+    ("who", lambda of, it: of.count(it, DM1), LONG, None), ("name", lambda of, it: of.count(Who(it), DM1), LONG, None), ("address", lambda of, it: of.count(Who(None, it), DM1), BYTE, None),
+    ("gaps", lambda of, it: of.count(Who(None, 1, it), DM1), LONG, None), ("kind", lambda of, it: of.messages(0xA0, it), BYTE, "NO_KIND"),
+    ("place", lambda of, it: of.message(0xA0, DM1, it), LONG, "NO_PLACE"),
+)
+OF_UNITS = (
+    ("id", lambda of, it: of.hear(it, DATA, 0), WORD, "ID_TOO_LARGE"), ("now", lambda of, it: of.hear(0, DATA, it), LONG, None), ("now", lambda of, it: of.next(it), LONG, None),
+    ("now", lambda of, it: of.when(it), LONG, None), ("states", lambda of, it: of.lamps(it), BYTE, None), ("flashes", lambda of, it: of.lamps(0, it), BYTE, None),
+    ("kind", lambda of, it: of.begin(it), BYTE, "NO_KIND"),
+    *((what, lambda of, it, call=call, what=what: getattr(of, call)(**{"spn": 1, "fmi": 1, what: it}), most, name) for call in ("set", "heal", "pend", "unpend")
+      for what, most, name in (("spn", WORD, "SPN_TOO_LARGE"), ("fmi", BYTE, "FMI_TOO_LARGE"))),
+)
+OF_LIVE_STATIONS = (
+    ("id", lambda of, it: of.hear(it, DATA, 0), WORD, "ID_TOO_LARGE"), ("now", lambda of, it: of.hear(0, DATA, it), LONG, None), ("count", lambda of, it: of.missed(it, 0), WORD, None),
+    ("now", lambda of, it: of.missed(0, it), LONG, None), ("now", lambda of, it: of.next(it), LONG, None), ("now", lambda of, it: of.when(it), LONG, None),
+    ("now", lambda of, it: of.end(it), LONG, None), ("pgn", lambda of, it: of.share(it), WORD, "PGN_TOO_LARGE"), ("pgn", lambda of, it: of.request(0, it), WORD, "PGN_TOO_LARGE"),
+    ("to", lambda of, it: of.request(it, 65280), BYTE, None), ("name", lambda of, it: of.request(pgn=65280, name=it), LONG, None),
+    ("pgn", lambda of, it: of.send(0, it, b""), WORD, "PGN_TOO_LARGE"), ("to", lambda of, it: of.send(it, 65280, b""), BYTE, None),
+    ("name", lambda of, it: of.ask(it, 65226), LONG, None), ("what", lambda of, it: of.ask(0xA0, it), WORD, "NO_GROUP"), ("what", lambda of, it: of.ask_all(it), WORD, "NO_GROUP"),
+    ("name", lambda of, it: of.clear(it, 65228), LONG, None), ("pgn", lambda of, it: of.clear(0xA0, it), WORD, "NO_GROUP"), ("name", lambda of, it: of.command(it, 9), LONG, None),
+    ("address", lambda of, it: of.command(0xA0, it), BYTE, "NOT_AN_ADDRESS"),
+)
+
+
+def ends_of_ranges():
+    """Each number at both ends of what it may be, and what is no number."""
+    makers = {Station: OF_STATIONS, Listener: OF_LISTENERS, SimulatedUnit: OF_UNITS, hidzgula.LiveStation: OF_LIVE_STATIONS}
+    opened = {Listener: Listener, hidzgula.LiveStation: lambda: hidzgula.LiveStation(1, 1, share=[65280])}
+    rows = [("an opening", what, call, most, name) for what, call, most, name in NUMBERS]
+    for of, calls in makers.items():
+        # (each of one that was opened for it)
+        make = opened.get(of, lambda of=of: of(1, 1))
+        rows += [(of.__name__, what, lambda it, call=call, make=make: call(make(), it), most, name) for what, call, most, name in calls]
+    for place, (whose, what, call, most, name) in enumerate(rows):
+        said = f"{whose}, call {place}, {what}"
+        for number in (most + 1, 2**70):
+            error = raised(call, number)
+            wanted = ("Refused", name) if name else ("ValueError", f"{what} is {number}, and may be 0 to {most}")
+            same(f"{said} {number}", (type(error).__name__, getattr(error, "name", str(error))), wanted)
+        error = raised(call, -1)
+        same(f"{said} -1", (type(error).__name__, str(error)), ("ValueError", f"{what} is -1, and may be 0 to {most}"))
+        # (it may be refused for another reason than its type)
+        same(f"{said} {most}", type(raised(call, most)) in (ValueError, TypeError), False)
+        error = raised(call, "1")
+        same(f"{said} '1'", (type(error).__name__, str(error)), ("TypeError", f"{what} is a whole number, and not '1'"))
+
+
 def numbers():
     """Each refusal of the header stands here, under its number."""
     header = (TOP / "c/hidzgula_station.h").read_text()
     answers = header[header.index("HIDZGULA_DONE = 0") : header.index("/* The kinds of diagnostic messages")]
     wanted = {int(number): name for name, number in re.findall(r"HIDZGULA_(\w+) = (\d+)", answers) if name != "DONE"}
     same("the numbers", {number: name for number, (name, _) in REFUSALS.items()}, wanted)
-    # HAS_STATION would be an open of a handle that a Station has open already, which no call does; the others likewise
-    same("each is seen", seen, set(wanted.values()) - {"OUT_OF_MEMORY", "HAS_STATION", "HAS_UNIT", "HAS_LISTENER"})
+    # HAS_STATION would be an open of a handle that a Station has open already, which no call does; the others likewise. Of NO_ROOM `save` asks again, and
+    # NOT_SAVED is not known to come
+    unseen = {"OUT_OF_MEMORY", "HAS_STATION", "HAS_UNIT", "HAS_LISTENER", "NO_ROOM", "NOT_SAVED"}
+    same("each is seen", seen, set(wanted.values()) - unseen)
     same("of memory", (REFUSALS[OUT_OF_MEMORY][0], issubclass(hidzgula.OutOfMemory, MemoryError)), ("OUT_OF_MEMORY", True))
     same("an unknown one", Refused(99).name, "UNKNOWN")
 
@@ -270,5 +354,6 @@ closed()
 of_listeners()
 of_units()
 of_live_stations()
+ends_of_ranges()
 numbers()
 sums()

@@ -6,7 +6,7 @@ import time
 import can
 
 import hidzgula
-from hidzgula import DM1, DM2, PGN_DM2, PGN_DM3, PGN_DM11, Code, Finding, Tester
+from hidzgula import DM1, DM2, PGN_DM2, PGN_DM3, PGN_DM11, Code, Delivery, Finding, Sent, Tester
 from hidzgula.can_unit import CanUnit
 from tries import raised, same, sums
 
@@ -39,6 +39,7 @@ def orders():
                     it.join()
                 same("orders of several threads", [it.finding for it in answers], [Finding.ANSWERED] * 3)
                 same("it is there", (tester.address, tester.unheard, tester.error, brakes.error), (249, 0, None, None))
+                saved, known = tester.save(), [unit.name for unit in tester.units()]
                 engine.close()  # (it is silent from now on)
                 late = []
                 waiting = threading.Thread(target=lambda: late.append(tester.ask(ENGINE, DM1)))
@@ -48,6 +49,36 @@ def orders():
             waiting.join()
             same("closed meanwhile", late[0].finding, Finding.CUT_OFF)
             same("closed", (raised(tester.ask, ENGINE, DM1).name, tester.close()), ("NO_STATION", None))
+            with Tester.restore(tool, saved, grant=16, settle=0) as tester:
+                same("who was saved", ([unit.name for unit in tester.units()], tester.newest(ENGINE, DM2).codes), (known, ()))
+                same("who answers then", tester.ask(BRAKES, DM1).finding, Finding.ANSWERED)
+            same("no text", type(raised(Tester.restore, tool, b"")), ValueError)
+
+
+def messages():
+    """What one tester sends of a group that both share comes to the other, by NAME and to all; nobody answers at an address without a unit."""
+    told = []
+    with can.Bus("sends", interface="virtual") as left, can.Bus("sends", interface="virtual") as right:
+        with Tester(left, OWN, 249, settle=0, share=(61184,)) as one, Tester(right, ENGINE, 7, settle=0, share=(61184,), on_message=told.append) as other:
+            while not any(unit.name == ENGINE and unit.address == 7 for unit in one.units()):
+                time.sleep(0.01)
+            data = bytes(range(256)) * 4
+            same("to a NAME", one.send(pgn=61184, data=data, name=ENGINE), Sent(Delivery.ACKNOWLEDGED))
+            same("one frame", one.send(7, 61184, b"abc"), Sent(Delivery.WRITTEN))
+            same("to all", one.send(255, 61184, b"123456789"), Sent(Delivery.WRITTEN))
+            same("to nobody", one.send(33, 61184, data), Sent(Delivery.SILENT))
+            same("another group", raised(one.send, 7, 61440, b"").name, "NO_GROUP")
+            time.sleep(0.1)
+            same("all came", [(it.data, it.source) for it in told], [(data, 249), (b"abc", 249), (b"123456789", 249)])
+            late = []
+            waiting = threading.Thread(target=lambda: late.append(one.send(33, 61184, data)))
+            waiting.start()
+            while one.sent.delivery != Delivery.OPEN and waiting.is_alive():
+                time.sleep(0.001)
+            other.close()
+        waiting.join()
+        same("closed meanwhile", late, [Sent(Delivery.CUT_OFF)])
+        same("closed", raised(one.send, 33, 61184, data).name, "NO_STATION")
 
 
 def broken_bus():
@@ -61,8 +92,9 @@ def broken_bus():
             return None
 
     def left():
-        with Tester(Full(), OWN, 249) as tester:
+        with Tester(Full(), OWN, 249, share=(61184,)) as tester:
             same("by the order", str(raised(tester.ask, ENGINE, DM1)), "no buffer space available")
+            same("by a message", str(raised(tester.send, 255, 61184, b"abc")), "no buffer space available")
 
     same("what it raised", str(raised(left)), "no buffer space available")
     same("no bus", type(raised(Tester, 5, OWN, 249)), TypeError)
@@ -71,5 +103,6 @@ def broken_bus():
 
 
 orders()
+messages()
 broken_bus()
 sums()

@@ -16,6 +16,8 @@ FLASHES = {0: " flashing slowly", 1: " flashing fast"}
 ACKNOWLEDGED = ["acknowledged a request of group", "refused a request of group", "denied access to group", "cannot respond now to a request of group"]
 LISTED, IN_A_ROW = 20, 8
 LEAST = 0.3  # how wide a bar is at least, in percent
+# How far the marks of the axis may be apart, up to a day.
+STEPS = [it * 1000 for it in (1, 2, 5, 10, 20, 50, 100, 200, 500, *(1000 * it for it in (1, 2, 5, 10, 15, 30, 60, 120, 300, 600, 900, 1800, 3600, 7200, 14_400)))]
 ROWS, HANDOVERS, CHANGES, LANES = 1000, 50, 500, 64
 # Of each identification but the VIN its key in JSON, its word on the page, and the names of its fields.
 IDENTIFIED = {"component": ("component", FIELDS[65259]), "software": ("software", []), "ecu": ("ECU", FIELDS[64965])}
@@ -272,14 +274,40 @@ class Page:
                 begun, ended = self.place(first), self.place(last)
                 if not (begun - LEAST - 0.02 <= at <= begun + 0.02 and max(LEAST, ended - begun) - 0.02 <= width <= max(LEAST, ended - begun) + LEAST + 0.02 and at + width <= 100.01):
                     found.append(f"{title} stands at {at} and is {width} wide, and is of {begun:.2f} to {ended:.2f}")
-        marks = re.findall(r'<text x="([0-9.]+)%" y="14"[^>]*>([^<]*)</text>', page)
-        if not marks and self.end - self.start > 10_000_000:
-            found.append("the axis has no mark")
-        for at, text in marks:
-            time = self.start + float(at) / 100 * (self.end - self.start)
-            if re.fullmatch(r"\d\d:\d\d:\d\d", text) and text not in [clock(int(time) + near) for near in (-(self.end - self.start) // 5000 - 1000, 0, (self.end - self.start) // 5000 + 1000)]:
-                found.append(f"the mark {text} stands at {at}, which is {clock(int(time))}")
         return found[:3]
+
+    def axis(self, page):
+        return misdrawn_axis(page, self.start, self.end)
+
+
+def misdrawn_axis(page, start, end, is_relative=False):
+    """What is wrong with the marks of the axis: they stand at round times of the clock, one step apart, from the first to the last that there is; each
+    second one is left out of a narrow page, the words of the outermost stay on the page, and each lane has a line at each mark."""
+    body = re.search(r'(?s)<svg [^>]*class="axis"[^>]*>(.*?)</svg>', page)[1]
+    marks = re.findall(r'<text x="([0-9.]+)%" y="14" class="mark( odd)?( left)?( right)?">([^<]*)</text>', body)
+    found = [] if body == "".join(f'<text x="{at}%" y="14" class="mark{"".join(more)}">{text}</text>' for at, *more, text in marks) else [f"the axis is {body!r}"]
+    # (a step that is the least by which there are eight at most; by relative times from the start on)
+    step = next((it for it in STEPS if (end - start) // it <= 8), STEPS[-1])
+    first = start if is_relative else -(-start // step) * step
+    times = range(first, end + 1, step)
+    wanted = [relative(it - start, step < 1_000_000) if is_relative else clock(it, step < 1_000_000) for it in times]
+    found += [] if [text for *_, text in marks] == wanted else [f"the marks are {[text for *_, text in marks]}, wanted {wanted}"]
+    for number, ((at, odd, left, right, text), time) in enumerate(zip(marks, times)):
+        at, place = float(at), 100 * (time - start) / max(1, end - start)
+        found += [f"the mark {text} stands at {at}"] if abs(at - place) > 0.02 else []
+        if (odd, left, right) != (" odd" * (number % 2), " left" * (at < 5), " right" * (at > 95)):
+            found.append(f"the mark {text} at {at} is{odd}{left}{right}")
+    for lane in re.findall(r'(?s)<svg [^>]*class="lane"[^>]*>(.*?)</svg>\n', page):
+        lines = re.findall(r'<line x1="([0-9.]+)%" x2="([0-9.]+)%" y1="0" y2="100%" class="mark"/>', lane)
+        if lines != [(at, at) for at, *_ in marks]:
+            found.append(f"a lane has the lines {lines}")
+    return found[:3]
+
+
+def relative(time, thousandths):
+    """How long after the start."""
+    seconds = time // 1_000_000
+    return f"+{seconds // 3600}:{seconds // 60 % 60:02}:{seconds % 60:02}" + (f".{time // 1000 % 1000:03}" if thousandths else "")
 
 
 class Unit:
@@ -491,14 +519,17 @@ def is_label(kind, title, text):
 # What an element of a page may have.
 ATTRIBUTES = set("aria-hidden charset class colspan content data-l height http-equiv id lang name patternTransform patternUnits role width x x1 x2 xmlns y y1 y2".split())
 
+ROLES = {"cell", "columnheader", "group", "img", "row", "rowgroup", "table"}
+
 
 def undressed(page):
-    """What of a page has no look: classes that its style does not know, and attributes that mean nothing."""
+    """What of a page has no look: classes that its style does not know, and attributes and roles that mean nothing."""
     style, body = re.search(r"(?s)<style>(.*?)</style>(.*)", page).groups()
     known = set(re.findall(r"\.([a-z]\w*)", style))
     used = {word for words in re.findall(r' class="([^"]*)"', body) for word in words.split()}
     attributes = {name for tag in re.findall(r"<[a-z]\w*((?: [\w-]+=\"[^\"]*\")*)", body) for name in re.findall(r" ([\w-]+)=", re.sub('"[^"]*"', '""', tag))}
-    return [f"no style has the class {it}" for it in sorted(used - known)] + [f"an attribute {it}" for it in sorted(attributes - ATTRIBUTES)]
+    roles = set(re.findall(r' role="([^"]*)"', body)) - ROLES
+    return [f"no style has the class {it}" for it in sorted(used - known)] + [f"an attribute {it}" for it in sorted(attributes - ATTRIBUTES)] + [f"a role {it}" for it in sorted(roles)]
 
 
 def left_out_of(page):

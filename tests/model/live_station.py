@@ -5,24 +5,28 @@ Written from docs/TESTER.md and docs/DECISIONS.md ("Times on a real bus"). What 
 written, over which the orders look back.
 """
 
-from .frames import CLAIM, GLOBAL, PACKET, REQUEST, claimed_name, control_of, request, requested
+from .frames import (ABORT, CLAIM, GLOBAL, PACKET, REQUEST, RTS, abort, claimed_name, control_of, control_pgn, cts, in_order, request, requested)
 from .lanes import LANES, Lanes
 from .station import Station
 
 ANSWER_WITHIN = 1_250_000
 ECHOES = 64
+# Of sessions (J1939-21, from memory): T1 behind a packet, T2 behind a grant; how often a packet is asked for again, and how many are at once.
+PACKET_WITHIN, GRANTED_WITHIN, AGAIN, AT_ONCE = 750_000, 1_250_000, 2, 16
+ASKED_TOO_OFTEN, LEFT_ALONE = 5, 3
 
 
 class Happened:
     """One thing that was heard, missed or written. `place` is the place of the reading, where the station was told it, or of the next one; `before` and `held` are the addresses
-    that it held before and after; `order` is whose frame was written: an order and its part."""
+    that it held before and after; `order` is whose frame was written: an order and its part. `passed` is whether
+    a packet was out of turn, so that the station was not told of it, and `again` from whom packets were asked for again."""
 
-    __slots__ = ("what", "time", "frame", "place", "before", "held", "contested", "stranger", "order", "returned", "listed")
+    __slots__ = ("what", "time", "frame", "place", "before", "held", "contested", "stranger", "order", "returned", "listed", "passed", "again")
 
     def __init__(self, what, time, frame=None, place=None, order=None):
         self.what, self.time, self.frame, self.place, self.order = what, time, frame, place, order
-        self.before = self.held = self.listed = None
-        self.contested = self.stranger = self.returned = False
+        self.before = self.held = self.listed = self.again = None
+        self.contested = self.stranger = self.returned = self.passed = False
 
 
 class LiveStation(Lanes, Station):
@@ -32,6 +36,8 @@ class LiveStation(Lanes, Station):
         self.log, self.silent_at = [], []
         # (where in the log stand: what it wrote, for which part of which order; its own requests for claims; gaps)
         self.places, self.asks, self.gaps = {}, [], []
+        # (and by source what was heard and written of its sessions)
+        self.talks = {}
         self.stand(gap, settle)
         super().__init__(name, address, grant)
 
@@ -95,12 +101,72 @@ class LiveStation(Lanes, Station):
             self.unheard += 1
             return note
         self.heard += 1
+        if frame.dest == self.held and (frame.pgn == PACKET or control_of(frame) == RTS):
+            self.talks.setdefault(frame.source, []).append(len(self.log) - 1)
+        if self.is_out_of_turn(frame):
+            note.passed = True
+            return note
         note.place, count = len(self.readings), len(self.entries)
         self.take(frame)
         note.held, note.contested = self.held, self.readings[note.place].contested
         note.listed = self.entries[count] if len(self.entries) > count else None
         self.has_held(note.before, now)
         return note
+
+    def under_way(self, source):
+        """The session from a source: the place of its start, and its packets so far."""
+        return None if self.held is None else self.message_under_way(source, self.held, len(self.readings))
+
+    def is_out_of_turn(self, frame):
+        """Whether a frame is a packet of a session that came already, or one behind a packet that is missing."""
+        if frame.pgn != PACKET or frame.dest != self.held:
+            return False
+        under_way = self.under_way(frame.source)
+        return under_way is not None and not in_order(under_way[1] + [frame.data], len(under_way[1]) + 1)
+
+    # Packets that are missing.
+
+    def waits_for(self, source):
+        """Of the session from a source: where in the log something came of it last, or was asked; until when a packet is waited for; whether the last one
+        that was granted or asked for was heard, so that nothing more comes by itself; and what is written where a packet is missing then. None where none is
+        open, or it was given up and nothing came in order since."""
+        under_way = self.under_way(source)
+        if under_way is None:
+            return None
+        at, packets = under_way
+        start, have = self.readings[at].frame, len(packets)
+        step, pgn, own = self.step(start), control_pgn(start), self.held
+        end = min((have // step + 1) * step, start.data[3])
+        places = [place for place in self.talks[source] if self.log[place].what == "wrote" or self.log[place].passed or self.log[place].place >= at]
+        first = next(number for number, place in enumerate(places) if self.log[place].place == at and self.log[place].what == "heard" and not self.log[place].passed)
+        places = places[first:]
+        # (what was written before the session was given up counts no more)
+        given_up = max([number for number, place in enumerate(places) if self.log[place].what == "wrote" and control_of(self.log[place].frame) == ABORT], default=-1)
+        asks = [place for place in places[given_up + 1 :] if self.log[place].what == "wrote"]
+        told = [place for place in places if self.log[place].what == "heard" and not self.log[place].passed and (control_of(self.log[place].frame) != RTS or self.log[place].place == at)]
+        if given_up == len(places) - 1 or given_up >= 0 and told[-1] < places[given_up]:
+            return None
+        window = told[have - have % step]
+        asked = self.log[asks[-1]].frame if asks and asks[-1] > window else None
+        last = end if asked is None else asked.data[2] + asked.data[1] - 1
+        since = max(told[-1], asks[-1] if asks else -1)
+        numbers = [(self.log[place].frame.data or b"\0")[0] for place in places if self.log[place].passed and place > since]
+        ended = max(numbers, default=-1) >= last or since == told[-1] and 0 < have and have % step != 0 and last <= have
+        newest = self.log[max([place for place in places if self.log[place].passed or place in (told[-1], since)])]
+        is_grant = newest.what == "wrote" or not newest.passed and have % step == 0
+        until = newest.time + (GRANTED_WITHIN if is_grant else PACKET_WITHIN)
+        times = sum(self.log[place].frame.data[2] == have + 1 for place in asks)
+        if times < AGAIN:
+            frame = cts(min(AT_ONCE, end - have), have + 1, pgn, source, own)
+        else:
+            frame = abort(pgn, source, own, ASKED_TOO_OFTEN if ended else LEFT_ALONE)
+        return self.log.index(newest), until, ended, frame
+
+    def missing(self, now):
+        """What is written of a session of which a packet is missing: the one of which nothing came or was asked for the longest time is the first."""
+        waits = [self.waits_for(source) for source in self.talks]
+        due = [it for it in waits if it is not None and (it[2] or it[1] <= now)]
+        return min(due, key=lambda it: it[0])[3] if due else None
 
     def miss(self, count, now):
         """So many frames were not heard."""
@@ -140,8 +206,15 @@ class LiveStation(Lanes, Station):
         return self.is_settled(now) and not self.waiting()
 
     def write(self, now):
-        """The frame that goes at this time: of a lane, or else a request for claims."""
+        """The frame that goes at this time: of a lane, or else what asks for packets again, or else a request for claims."""
         frame = self.lane_due(now)
+        if frame is None and self.is_free(now):
+            frame = self.missing(now)
+            if frame is not None:
+                self.wrote(frame, now)
+                self.log[-1].again = frame.dest
+                self.talks[frame.dest].append(len(self.log) - 1)
+                return frame
         if frame is None and self.wants_claims() and self.may_ask_all(now):
             frame = request(CLAIM, GLOBAL, self.held)
         return None if frame is None else self.wrote(frame, now)
@@ -163,4 +236,5 @@ class LiveStation(Lanes, Station):
 
     def times(self):
         asked = self.asked_at()
-        return [self.claim_at, self.settled_at, self.packet_at] + ([] if asked is None else [asked + ANSWER_WITHIN])
+        waits = [self.waits_for(source) for source in self.talks]
+        return [self.claim_at, self.settled_at, self.packet_at, *(it[1] for it in waits if it is not None)] + ([] if asked is None else [asked + ANSWER_WITHIN])

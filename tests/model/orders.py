@@ -4,7 +4,7 @@ Written from docs/TESTER.md. Nothing is kept but the log of what was heard, miss
 it. What comes first after the order's latest frame, and fits a sentence below, decides.
 """
 
-from .frames import (ACKNOWLEDGMENT, BAM, CLAIM, COMMANDED_ADDRESS, CONTROL, DM1, DM2, DM3, GLOBAL, LAST_ADDRESS, NULL, PACKET, RTS, TITLES, broadcast,
+from .frames import (ACKNOWLEDGMENT, BAM, CLAIM, COMMANDED_ADDRESS, CONTROL, CTS, DM1, DM2, DM3, GLOBAL, LAST_ADDRESS, NULL, PACKET, RTS, TITLES, broadcast,
                      claimed_name, control_of, control_pgn, control_size, in_order, joined, number, request)
 from .live_station import ANSWER_WITHIN
 from .memory import read_message
@@ -51,8 +51,12 @@ class Open:
         return self.station.places.get((self, part), [])
 
     def behind(self, at):
-        """What was heard or missed behind a place in the log."""
-        return (it for it in self.station.log[at + 1 :] if it.what != "wrote")
+        """What was heard or missed behind a place in the log, and where packets were asked for again."""
+        return (it for it in self.station.log[at + 1 :] if it.what != "wrote" or it.again is not None)
+
+    def is_late(self, it, until):
+        """Whether something came behind the time until which an answer was waited for. Packets are asked for again before an order looks at the time."""
+        return until < it.time or until == it.time and it.what != "wrote"
 
     def address_at(self, place):
         """The address of the NAME before the reading at a place."""
@@ -100,15 +104,23 @@ class Open:
     def goes_on(self, at, it, kind, source):
         """Whether a frame begins or goes on with a message of this kind that was announced behind a request: by this source, whose newest announcement
         counts; or, where all were asked, by whomever."""
-        if it.what != "heard" or it.place is None or source not in (None, it.frame.source):
+        if it.what == "wrote":
+            return it.frame.data[0] == CTS and self.goes_on_in(at, it, kind, source, it.again, self.station.log[at].held)
+        if it.what != "heard" or it.place is None and not it.passed or source not in (None, it.frame.source):
             return False
         announced = self.announces(at, it)
         if announced:
             return announced[1] == kind
         if it.frame.pgn != PACKET or it.frame.dest not in (GLOBAL, self.station.log[at].held):
             return False
+        return self.goes_on_in(at, it, kind, source, it.frame.source, it.frame.dest)
+
+    def goes_on_in(self, at, it, kind, source, sender, dest):
+        """Whether a message of this kind that was announced behind a request goes on with a packet from a sender, or one that it is asked for."""
+        if source not in (None, sender):
+            return False
         before = self.station.log[at + 1 : self.station.log.index(it)]
-        groups = [found[1] for other in before if source in (None, other.frame and other.frame.source) and (found := self.announces(at, other)) and found[0] == it.frame.dest]
+        groups = [found[1] for other in before if source in (None, other.frame and other.frame.source) and (found := self.announces(at, other)) and found[0] == dest]
         return kind in groups if source is None else bool(groups) and groups[-1] == kind
 
     def acknowledged(self, at, it, group):
@@ -130,7 +142,7 @@ class Open:
         """Of a request for a message of the NAME, or for its claim: what came of it, when, and what of it is told; or until when it is waited."""
         asked, last = self.station.log[at], self.station.log[at].time
         for it in self.behind(at):
-            if min(last + ANSWER_WITHIN, asked.time + AT_MOST) <= it.time:
+            if self.is_late(it, min(last + ANSWER_WITHIN, asked.time + AT_MOST)):
                 break
             if it.what == "gap":
                 return "again", it.time, None
@@ -196,7 +208,7 @@ class Open:
         """Of a request to all: whether somebody answered, whether it has to be written again, and until when it is waited."""
         asked, last, answers, group = self.station.log[at], self.station.log[at].time, False, self.order.group
         for it in self.behind(at):
-            if min(last + ANSWER_WITHIN, asked.time + AT_MOST) <= it.time:
+            if self.is_late(it, min(last + ANSWER_WITHIN, asked.time + AT_MOST)):
                 break
             if it.what == "gap" or it.contested or it.held != asked.held or it.stranger:
                 return answers, "again", it.time

@@ -6,11 +6,17 @@ from .frames import ABORT, BAM, GLOBAL, NULL, PACKET, RTS
 
 
 class Shared:
-    """What a program has that shares groups at an address which never moves."""
+    """What a program has that shares groups at the address of its station."""
 
     def __init__(self, own, groups, grant):
         self.own, self.groups, self.grant = own, groups, grant
         self.heard = []  # each frame, oldest first; None is a gap
+        self.since = 0  # (from which place on the station holds its address)
+        self.sends_to = None  # to whom the packets go of the message that was sent last
+
+    def follow(self, held):
+        """The station holds another address, or none: what was begun with it is over."""
+        self.own, self.since = held, len(self.heard)
 
     def newest(self, at, wanted):
         """The place of the newest frame before a place, none being a gap, that is wanted; None where there is none."""
@@ -29,7 +35,8 @@ class Shared:
     def announced(self, at, source, dest):
         """The place of the newest announcement of a message from one to all or to the station."""
         first = BAM if dest == GLOBAL else RTS
-        return self.newest(at, lambda it: it.source == source and it.dest == dest and frames.control_of(it) == first)
+        begun = self.newest(at, lambda it: it.source == source and it.dest == dest and frames.control_of(it) == first)
+        return None if begun is not None and first == RTS and begun < self.since else begun
 
     def half(self, at, source, dest):
         """What is half joined before a place: its announcement and the packets since; None where nothing is."""
@@ -51,6 +58,8 @@ class Shared:
 
     def is_withheld(self, frame):
         """Whether a frame that is heard next is not for the station."""
+        if frame.source == self.own and frame.pgn == PACKET and frame.dest == self.sends_to:
+            return True
         if frame.source == self.own and frames.claimed_name(frame) is None:
             asked = frames.requested(frame)
             about = asked if asked is not None else frames.control_pgn(frame) if frames.control_of(frame) is not None else frame.pgn
@@ -64,7 +73,7 @@ class Shared:
         if frame.pgn != PACKET:
             return False
         # (a gap ends what is half joined, and not whose the packets are)
-        newest = [it for it in self.heard if it and it.source == frame.source and it.dest == self.own and frames.control_of(it) == RTS]
+        newest = [it for it in self.heard[self.since :] if it and it.source == frame.source and it.dest == self.own and frames.control_of(it) == RTS]
         return bool(newest) and frames.control_pgn(newest[-1]) in self.groups
 
     def hear(self, frame):

@@ -4,9 +4,9 @@
 #![tactic(auto)]
 
 use command_line::{Errors, asked_for, done_elsewhere, ended, read_words};
-use program_io::{Failure, Fault, Job, LogArguments};
+use program_io::{Failure, Fault, Job, LogArguments, Messages};
 use std::io;
-use std::io::BufWriter;
+use std::io::{BufWriter, LineWriter};
 use std::process::ExitCode;
 use std::rt::Runtime;
 use std::sync::Wait;
@@ -50,9 +50,7 @@ fn do_job<R: Runtime + AllocGlobal + Threads + Wait + Sync>(
 
 #[inline(never)]
 fn script<R: Runtime + AllocGlobal>(rt: &R) -> Result<(), Failure> {
-    let Ok(mut writer) = BufWriter::new(rt.alloc(), io::writer(rt)) else {
-        return Err(Failure::from(Fault::Memory));
-    };
+    let mut writer = BufWriter::new(rt.alloc(), io::writer(rt)).map_err(|_| Fault::Memory)?;
     script_run::script(rt.alloc(), &mut rt.reader(), &mut writer)?;
     Ok(())
 }
@@ -64,6 +62,7 @@ fn threads<R: Runtime + AllocGlobal + Threads + Wait + Sync>(
     reads: u32,
     report: bool,
 ) -> Result<(), Failure> {
+    let mut writer = BufWriter::new(rt.alloc(), io::writer(rt)).map_err(|_| Fault::Memory)?;
     unit_threads::threads(
         rt,
         rt.alloc(),
@@ -71,23 +70,28 @@ fn threads<R: Runtime + AllocGlobal + Threads + Wait + Sync>(
         reads,
         report,
         &mut rt.reader(),
-        &mut io::writer(rt),
+        &mut writer,
     )
 }
 
 #[inline(never)]
 fn log<R: Runtime + AllocGlobal>(rt: &R, words: LogArguments<'_>) -> Result<(), Failure> {
+    let mut writer = BufWriter::new(rt.alloc(), io::writer(rt)).map_err(|_| Fault::Memory)?;
+    let mut errors = LineWriter::new(rt.alloc(), Messages::new(Errors::new(rt))).map_err(
+        |_| Fault::Memory,
+    )?;
     script_run::log(
         rt.alloc(),
         words,
         &mut rt.reader(),
-        io::writer(rt),
-        Errors::new(rt),
+        &mut writer,
+        &mut errors,
     )
 }
 
 #[inline(never)]
 fn check<R: Runtime + AllocGlobal>(rt: &R) -> Result<(), Failure> {
-    script_run::check(rt.alloc(), &mut rt.reader(), io::writer(rt))?;
+    let mut writer = BufWriter::new(rt.alloc(), io::writer(rt)).map_err(|_| Fault::Memory)?;
+    script_run::check(rt.alloc(), &mut rt.reader(), &mut writer)?;
     Ok(())
 }

@@ -98,7 +98,7 @@ def script_bodies(path):
 
 
 # What is no Rattle, by folders and files.
-SCRIPTS = ("python/hidzgula/*.py", "python/wheel_backend.py", "c/*.h", "run_program", "program_for", "j1939bench", "install_program", "pages/answer",
+SCRIPTS = ("python/hidzgula/**/*.py", "python/wheel_backend.py", "c/*.h", "run_program", "program_for", "j1939bench", "install_program", "pages/answer",
            "c/build", "python/build", "release/*")
 
 

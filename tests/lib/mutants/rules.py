@@ -44,7 +44,7 @@ def comparisons(text, tokens, _):
 
 def signs(text, tokens, _):
     for token in tokens:
-        if token.text in TURNED and has_blanks(text, token):
+        if token.text in TURNED and has_blanks(text, token) and not text[: token.start].endswith("move "):
             yield Change("logic" if token.text in ("&&", "||") else "sum", token.start, token.end, TURNED[token.text])
 
 
@@ -108,17 +108,21 @@ def branches(text, tokens, _):
         yield Change("branch", start, start + len(condition), f"true || ({condition})")
 
 
+# What no argument beside it can be exchanged for: memory or the runtime, and one that is given by its name, or is a row of many.
+OF_ITS_OWN_TYPE = re.compile(r"(?:\w+\.)*(?:alloc|rt)\b|\w+=[^=]|\*")
+
+
 def pairs(parts, text):
     for left, right in zip(parts, parts[1:]):
         one, other = text[slice(*left)], text[slice(*right)]
-        if one != other and "\n" not in text[left[0] : right[1]]:
+        if one != other and "\n" not in text[left[0] : right[1]] and not (OF_ITS_OWN_TYPE.match(one) or OF_ITS_OWN_TYPE.match(other)):
             yield left, right, one, other
 
 
 def arguments(text, tokens, _):
     """Two arguments that are exchanged, or two fields of a value."""
     for at, token in enumerate(tokens):
-        if token.text not in ("(", "{") or not at or tokens[at - 1].kind != "name" or tokens[at - 1].text in ("if", "match", "in", "return", "while"):
+        if token.text not in ("(", "{") or not at or tokens[at - 1].kind != "name" or tokens[at - 1].text in ("if", "match", "in", "return", "while", "let", "for", "except"):
             continue
         end = closing_of(tokens, at)
         if end is None:
@@ -147,7 +151,9 @@ def somes(text, tokens, _):
     for at, token in enumerate(tokens[:-1]):
         if token.text == "Some" and tokens[at + 1].text == "(":
             end = closing_of(tokens, at + 1)
-            if end is not None and "\n" not in text[token.start : tokens[end].end]:
+            # (not in a pattern, whose names would be missing)
+            behind = tokens[end + 1].text if end is not None and end + 1 < len(tokens) else ""
+            if end is not None and "\n" not in text[token.start : tokens[end].end] and behind not in ("=>", "=", "if", "|"):
                 yield Change("none", token.start, tokens[end].end, "None")
 
 

@@ -23,7 +23,10 @@ def python_tokens(text):
 
 def python_changes(text):
     """All changes of a source of Python."""
-    tokens = [it for it in python_tokens(text) if not is_documentation(text, it)]
+    all_tokens = python_tokens(text)
+    told = [it for it in all_tokens if is_documentation(text, it)]
+    # (what a function is called with is changed where it is called; and what is written of types runs nowhere)
+    tokens = [it for it in all_tokens if it not in told and not re.match(r"\s*(async )?(def|@functools\.lru_cache)\b", line_at(text, it.start))]
     for rule in (comparisons, signs, numbers, arguments):
         yield from rule(text, tokens, Known())
     for token in tokens:
@@ -35,6 +38,8 @@ def python_changes(text):
             yield from letters(token)
     for line in re.finditer(r"(?m)^([ \t]+)(\S.*)$", text):
         start, bare = line.start(2), line[2]
+        if any(it.start <= start < it.end for it in told):
+            continue
         if re.match(r"(if|elif|while) .*:$", bare):
             begun = start + bare.index(" ") + 1
             condition = text[begun : line.end() - 1]
@@ -44,6 +49,11 @@ def python_changes(text):
             yield Change("left out", start, line.end(), "pass")
         if re.match(r"return \S", bare) and bare.count("(") == bare.count(")"):
             yield Change("early end", start, line.end(), "return None")
+
+
+def line_at(text, at):
+    first = text.rfind("\n", 0, at) + 1
+    return text[first : text.find("\n", at)]
 
 
 def is_whole(text, at):

@@ -1,4 +1,5 @@
 """Which tests see a wrong body: each that comes by it, the quickest first, until one fails. What is known is kept."""
+import fcntl
 import json
 import os
 import re
@@ -24,20 +25,24 @@ BY_A_CLOCK = ("run/live", "run/tester", "run/signals", "run/serve", "run/threads
 # Parts over random inputs with fewer of them: most wrong bodies are seen by the first.
 FEWER = {"run/random_scripts": ["--seed", "1", "--runs", "120"], "run/random_logs": ["--seed", "1", "--runs", "24"], "run/random_live": ["--lines", "800", "--most", "60"],
          "run/random_tester": ["--lines", "800", "--most", "60"],
-         "run/random_pages": ["--runs", "4"], "run/stop_at_every_frame": None, "measure/live": None, "run/soak": None, "run/threads": None}
+         "run/random_pages": ["--runs", "4"], "run/random_signals": ["--runs", "12", "--lines", "200", "--payloads", "1000"], "run/stop_at_every_frame": None, "measure/live": None, "run/soak": None, "run/threads": None}
 # The slow ones, from the quickest on.
 SLOW = ["run/random_tester", "run/random_pages", "run/pages", "run/random_live", "run/live", "run/tester", "run/logs", "run/random_logs"]
 LAST = ["run/random_pages", "--seed", "2", "--runs", "16"]
 # What a program without proof does not pass, since it has checks and takes more memory; and what no wrong body of a program can change.
 WITHOUT_PROOF = ("refuse_memory", "fail_streams", "faults", "refuse_live", "refuse_tester")
-WITHOUT_PROGRAM = ("harness", "contracts", "one_home", "reading_list", "names_in_docs", "release", "constants", "c", "python", "random_units", "install",
-                   "chosen_names")
+WITHOUT_PROGRAM = ("harness", "contracts", "one_home", "reading_list", "names_in_docs", "constants", "install")
 # The parts that try a script, where that is not plain by its name in them.
 TRYING = {"run_program": ("run/signals", "run/install"), "install_program": ("run/install", "run/c"), "program_for": ("run/signals", "run/install"), "j1939bench": ("run/signals",),
           "pages/answer": ("run/pages_of_help",)}
 
+# The parts that stand on the library for C: they are left out where c/build has not made it.
+OF_THE_LIBRARY = ("run/c", "run/python", "run/random_units", "run/chosen_names", "run/fleet", "run/serve", "run/release")
 # What tries the package for Python by itself in some seconds: before run/python, which makes the wheel first.
-PYTHON_ALONE = [[f"in_python/{it}.py"] for it in ("lists", "units", "live", "logs", "refusals", "threads", "bench", "listener", "live_unit", "tester")]
+PYTHON_ALONE = [[f"in_python/{it}.py"] for it in ("lists", "units", "live", "logs", "refusals", "saving", "sent", "shared", "threads", "bench", "listener", "live_unit",
+                                                 "tester")]
+# The parts that try a folder of the package by themselves.
+PYTHON_FOLDERS = {"python/hidzgula/fleet": [["run/fleet"]], "python/hidzgula/serve": [["run/serve"]]}
 
 
 def every_part():
@@ -49,7 +54,7 @@ def every_part():
 
 def parts():
     """Those that run a program, with few random inputs, the quick ones first."""
-    names = [it for it in every_part() if it[0].split("/")[-1] not in WITHOUT_PROGRAM + WITHOUT_PROOF and it[1:] != ["--model"]]
+    names = [it for it in every_part() if it[0].split("/")[-1] not in WITHOUT_PROGRAM + WITHOUT_PROOF and it[0] not in OF_THE_LIBRARY and it[1:] != ["--model"]]
     chosen = [[it[0], *FEWER[it[0]]] if it[0] in FEWER else it for it in names if FEWER.get(it[0], it) is not None]
     return [*sorted(chosen, key=lambda it: SLOW.index(it[0]) if it[0] in SLOW else -1), LAST]
 
@@ -94,10 +99,14 @@ def fails(folder, words, limit):
 
 
 class Known:
-    """What is known of wrong bodies: by the key of each a text, `seen by ..`, `not seen` or `harmless: ..`."""
+    """What is known of wrong bodies: by the key of each a text, `seen by ..`, `not seen` or `harmless: ..`. Several lots at once add to it."""
 
     def __init__(self):
-        self.rows = json.loads(KEPT.read_text(encoding="utf-8")) if KEPT.exists() else {}
+        self.rows = self.kept()
+
+    @staticmethod
+    def kept():
+        return json.loads(KEPT.read_text(encoding="utf-8")) if KEPT.exists() else {}
 
     def get(self, body):
         return self.rows.get(body.key())
@@ -105,9 +114,11 @@ class Known:
     def note(self, body, told):
         self.rows[body.key()] = told
         KEPT.parent.mkdir(parents=True, exist_ok=True)
-        new = KEPT.with_suffix(".new")
-        new.write_text(json.dumps(self.rows, indent=0, sort_keys=True), encoding="utf-8")
-        os.replace(new, KEPT)
+        with open(KEPT.with_suffix(".lock"), "w", encoding="utf-8") as turn:
+            fcntl.flock(turn, fcntl.LOCK_EX)
+            new = KEPT.with_suffix(".new")
+            new.write_text(json.dumps(self.kept() | {body.key(): told}, indent=0, sort_keys=True), encoding="utf-8")
+            os.replace(new, KEPT)
 
 
 class Programs:
@@ -172,6 +183,8 @@ def parts_about(path):
     """The parts that name a script, or the folder that a source lies in; of the package and the library for C those of their folders; of a constant its own."""
     if path.startswith("crates/"):
         return [["run/constants"]]
+    if path.rpartition("/")[0] in PYTHON_FOLDERS:
+        return PYTHON_FOLDERS[path.rpartition("/")[0]]
     if path.startswith("python/"):
         return [["run/python"], *([["run/fleet"], ["run/serve"]] if path.endswith(("program.py", "candump.py", "table.py")) else [])]
     if path in TRYING:
@@ -195,8 +208,10 @@ class Scripts:
         self.folder, self.tell, self.passed = folder, tell, {}
 
     def times(self, part):
-        """The seconds of a part on the unchanged copy; None where it does not pass."""
+        """The seconds of a part on the unchanged copy; None where it does not pass, or would have the library for C proved first."""
         name = " ".join(part)
+        if part[0] in OF_THE_LIBRARY and not (self.folder / "c/out/proved").exists():
+            return None
         if name not in self.passed:
             passed, seconds, said = ran(self.folder, part, 600)
             self.passed[name] = seconds if passed else None
@@ -206,11 +221,13 @@ class Scripts:
     def seen_by(self, body):
         """The first part that sees it; an empty text where nothing was tried; None where none sees it."""
         parts = sorted((self.times(it), it) for it in parts_about(body.path) if self.times(it) is not None)
-        if body.path.startswith("python/hidzgula/"):
+        if body.path.startswith("python/hidzgula/") and body.area not in PYTHON_FOLDERS:
             parts = [(self.times(it), it) for it in PYTHON_ALONE if self.times(it) is not None] + parts
         file = self.folder / body.path
-        before = file.read_text(encoding="utf-8")
+        before, was = file.read_text(encoding="utf-8"), file.stat()
         file.write_text(body.apply(before), encoding="utf-8")
+        # (by its time nothing is to be proved again)
+        os.utime(file, ns=(was.st_atime_ns, was.st_mtime_ns))
         try:
             for seconds, part in parts:
                 if fails(self.folder, part, TIMES * seconds + 20) is not None:

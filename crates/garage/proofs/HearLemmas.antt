@@ -15,6 +15,7 @@ use Rattle.bus_ledger.specs.declared.traffic.Which.TheVariants as which
 use Rattle.node_core.specs.Deed.{heard_of}
 use Rattle.node_core.specs.Reaction.{question, reaction}
 use Rattle.node_core.specs.declared.heard.Answer.{Answer as UnitAnswer}
+use Rattle.node_core.specs.declared.heard.Answer.TheVariants.{NotAsked}
 use Rattle.node_core.specs.declared.heard.Withdraw.{Withdraw}
 use Rattle.node_core.specs.declared.heard.Withdraw.TheVariants as withdraw
 use Rattle.journal.specs.State.{State, unit_at}
@@ -25,7 +26,7 @@ use Rattle.garage.specs.Answers.{Hears, Passes, PassesNext, counted_hearing}
 use Rattle.garage.specs.Calls.{HearsFull, HearsNothing, IsNoMemoryOrFull}
 use Rattle.garage.specs.declared.answers.HeardOne.{HeardOne}
 use Rattle.garage.specs.declared.answers.HeardOne.TheVariants as heard
-use Rattle.node_core.specs.Asking.{IsAsked}
+use Rattle.node_core.specs.Asking.{IsAsked, memory_answered}
 use Rattle.garage.specs.Crew.{AreOthersUntouched, Comes, KeepsUnit, Sits, Sitting}
 use Rattle.garage.specs.Hearing.{HasHeardAll, HearsFrame, HearsMany, HearsNext, HearsOut, IsHearingCut, IsLast, IsNoMemoryOrFullAt}
 use Rattle.garage.specs.Room.{IsFull}
@@ -201,6 +202,31 @@ many_more {P} sitting asked n m f a b c p q r e h one =
 
 pub many_same : {P : Type 0} (sitting : P → Sitting) (asked : P → P → Option Question → UnitAnswer → Type 0) (n : ℕ) (a b b' : GarageValue) (p q q' : P) → HearsMany sitting asked n a p b q → b' ≡ b → q' ≡ q → HearsMany sitting asked n a p b' q'
 many_same {P} sitting asked n a b b' p q q' h e d = subst (λ (v : GarageValue). HearsMany sitting asked n a p v q') (sym e) (subst (λ (x : P). HearsMany sitting asked n a p b x) (sym d) h)
+
+-- so many, and then so many more
+pub many_both : {P : Type 0} (sitting : P → Sitting) (asked : P → P → Option Question → UnitAnswer → Type 0) (n m k : ℕ) (a b c : GarageValue) (p q r : P) → k ≡ n + m → HearsMany sitting asked n a p b q → HearsMany sitting asked m b q c r → HearsMany sitting asked k a p c r
+unfolding HearsMany
+many_both {P} sitting asked n zero k a b c p q r e one two =
+    let same : n ≡ k = omega arith in
+    subst (λ (l : ℕ). HearsMany sitting asked l a p c r) same (many_same sitting asked n a b c p q r one two.0 two.1)
+many_both sitting asked n (suc m) k a b c p q r e one two = many_more sitting asked (n + m) k two.0 a two.1 c p two.2 r (omega arith) (many_both sitting asked n m (n + m) a b two.1 p q two.2 refl one two.3) two.4
+
+-- one more that was passed over
+pub many_passed : {P : Type 0} (sitting : P → Sitting) (asked : P → P → Option Question → UnitAnswer → Type 0) (n m : ℕ) (a b c : GarageValue) (p q r : P) → m ≡ n + 1 → HearsMany sitting asked n a p b q → PassesNext b (sitting q).seat (sitting q).memory c
+    → (sitting r).seat ≡ (sitting q).seat → (sitting r).name ≡ (sitting q).name → (sitting r).memory ≡ (sitting q).memory → (sitting r).events ≡ (sitting q).events + 1 → asked q r None NotAsked → HearsMany sitting asked m a p c r
+many_passed {P} sitting asked n m a b c p q r e many passes seat name memory counted unasked =
+    let node = (unit_at (state_of b) (sitting q).seat).node in
+    let quiet : question node passes.0 ≡ None = passes.2.unasked in
+    many_more sitting asked n m passes.0 a b c p q r e many (record {
+      next = passes.1;
+      answer = NotAsked;
+      adds = passes.2.adds;
+      memory = memory ∙ sym (ap (λ (o : Option Question). memory_answered o NotAsked (sitting q).memory) quiet);
+      asked_it = subst (λ (o : Option Question). asked q r o NotAsked) (sym quiet) unasked;
+      seat = seat;
+      name = name;
+      counted = counted;
+    })
 
 -- ---- why hearing was refused
 

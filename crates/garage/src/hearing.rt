@@ -73,21 +73,70 @@ impl Garage {
         let Some(frame) = self.next_for(seat) else {
             return Ok(HeardOne::Nothing);
         };
-        if self.passes_over(seat, &Acceptance::of(&frame), &*unit) {
+        if self.passes_over(seat, &Acceptance::of(&frame), unit.memory()) {
             return Ok(HeardOne::Frame(frame));
         }
         self.react(alloc, seat, frame, unit)?;
         Ok(HeardOne::Frame(frame))
     }
 
-    /// The unit on the seat passes over its next frame, whose acceptance this is; returns whether it did. Else, and where the
-    /// journal has no room, nothing changes.
+    /// As `hear`, for a frame that the unit cannot pass over, or has no room to.
+    fn hear_in_full(
+        &mut self,
+        alloc: Global,
+        seat: u32,
+        unit: &mut dyn Unit,
+    ) -> Result<HeardOne, GarageError>
+        requires unit { IsUnit (state_of self.old).traffic seat }
+        ensures name { name_of unit.new ≡ name_of unit.old }
+        ensures ok { IfOk result (λ h. (u : _) × (unit.new ≡ (unit.old.0, u))
+            × Hears self.old seat (memory_of unit.old) (Answers unit.old) unit.old.1 h self.new (memory_of unit.new) u) }
+        ensures nothing { HearsNothing self.old seat result }
+        ensures full { HearsFull self.old seat result }
+        ensures only { IfErr result IsNoMemoryOrFull }
+        ensures err { OnErr result (self.new ≡ self.old) }
+        ensures unasked { OnErr result (unit.new ≡ unit.old) }
+    {
+        let Some(next) = self.next_for(seat) else {
+            return Ok(HeardOne::Nothing);
+        };
+        self.react(alloc, seat, next, unit)?;
+        Ok(HeardOne::Frame(next))
+    }
+
+    /// As `passes_over`, where the acceptance is to be found. Most frames are such that no unit heeds them.
+    #[inline(always)]
+    fn passes_over_next(&mut self, seat: u32, frame: &Frame, memory: &FaultMemory) -> bool
+        requires unit { IsUnit (state_of self.old).traffic seat }
+        requires next { next_for (state_of self.old) seat ≡ Some frame.now }
+        ensures passed { IsTrue result → PassesNext self.old seat memory.now self.new }
+        ensures left { IsFalse result → self.new ≡ self.old }
+    {
+        match Acceptance::of(frame) {
+            Acceptance::Ignored => self.passes_over(seat, &Acceptance::Ignored, memory),
+            _ => self.passes_over_heeded(seat, frame, memory),
+        }
+    }
+
+    /// As `passes_over_next`, for a frame that units heed.
+    #[inline(never)]
+    fn passes_over_heeded(&mut self, seat: u32, frame: &Frame, memory: &FaultMemory) -> bool
+        requires unit { IsUnit (state_of self.old).traffic seat }
+        requires next { next_for (state_of self.old) seat ≡ Some frame.now }
+        ensures passed { IsTrue result → PassesNext self.old seat memory.now self.new }
+        ensures left { IsFalse result → self.new ≡ self.old }
+    {
+        self.passes_over(seat, &Acceptance::of(frame), memory)
+    }
+
+    /// The unit on the seat, with this memory, passes over its next frame, whose acceptance this is; returns whether it did. Else,
+    /// and where the journal has no room, nothing changes.
     #[inline(always)]
     #[tactic(auto, using(crate::proofs::Standing::seat_low, crate::proofs::Standing::seat_placed))]
-    fn passes_over(&mut self, seat: u32, acceptance: &Acceptance, unit: &dyn Unit) -> bool
+    fn passes_over(&mut self, seat: u32, acceptance: &Acceptance, memory: &FaultMemory) -> bool
         requires unit { IsUnit (state_of self.old).traffic seat }
         requires next { (f : FrameValue) × (next_for (state_of self.old) seat ≡ Some f) × IsAcceptance acceptance.now f }
-        ensures passed { IsTrue result → PassesNext self.old seat (memory_of unit.now) self.new }
+        ensures passed { IsTrue result → PassesNext self.old seat memory.now self.new }
         ensures ready { IsTrue result → ¬ IsFull self.old }
         ensures left { IsFalse result → self.new ≡ self.old }
     {
@@ -98,7 +147,7 @@ impl Garage {
         if !place.node.absorb(acceptance) {
             return false;
         }
-        pass_over(place, &mut self.bus, &mut self.journal, seat, unit.memory());
+        pass_over(place, &mut self.bus, &mut self.journal, seat, memory);
         true
     }
 
@@ -212,15 +261,54 @@ impl Garage {
             × IsHearingCut (sitting_of (λ b. name_of b) (λ b. memory_of b)) (asked_of (λ b. Answers b)) n e self.old parked.old
             self.new parked.new) }
     {
-        for heard in 0..most {
+        let mut heard = self.pass_some(&mut *parked, most);
+        while heard < most {
             let HeardOne::Frame(_) = self.hear_seated(alloc, &mut *parked)? else {
                 return Ok(heard);
             };
+            heard += 1;
+            heard += self.pass_some(&mut *parked, most - heard);
         }
         Ok(most)
     }
 
-    /// A unit in its seat hears its next frame, as `hear` does, and counts that.
+    /// A unit in its seat passes over so many of its next frames at most, as far as that goes, and counts them; answers how many.
+    #[inline(always)]
+    fn pass_some(&mut self, parked: &mut Parked, most: u32) -> u32
+        requires { IsSeated self.old parked.old.seat (name_of parked.old.unit) parked.old.events }
+        ensures heard { HearsMany (sitting_of (λ b. name_of b) (λ b. memory_of b)) (asked_of (λ b. Answers b)) result
+            self.old parked.old self.new parked.new }
+        ensures most { result ≤ most }
+    {
+        let passed = self.pass_run(&*parked, most);
+        parked.events = self.events_of(parked.seat);
+        passed
+    }
+
+    /// A unit in its seat passes over so many of its next frames at most, as far as that goes; answers how many.
+    ///
+    /// That is what hearing them comes to, by the same commit. Its memory is looked at once for all of them.
+    #[inline(never)]
+    fn pass_run(&mut self, parked: &Parked, most: u32) -> u32
+        requires { IsSeated self.old parked.now.seat (name_of parked.now.unit) parked.now.events }
+        ensures heard { HearsMany (sitting_of (λ b. name_of b) (λ b. memory_of b)) (asked_of (λ b. Answers b)) result
+            self.old parked.now self.new (record parked.now { events = parked.now.events + result }) }
+        ensures most { result ≤ most }
+    {
+        let seat = parked.seat;
+        let memory = parked.memory();
+        for passed in 0..most {
+            let Some(frame) = self.next_for(seat) else {
+                return passed;
+            };
+            if !self.passes_over_next(seat, &frame, memory) {
+                return passed;
+            }
+        }
+        most
+    }
+
+    /// A unit in its seat hears its next frame, as `hear_in_full` does, and counts that.
     #[inline(always)]
     fn hear_seated(&mut self, alloc: Global, parked: &mut Parked) -> Result<HeardOne, GarageError>
         requires { IsSeated self.old parked.old.seat (name_of parked.old.unit) parked.old.events }
@@ -231,7 +319,7 @@ impl Garage {
         ensures only { IfErr result IsNoMemoryOrFull }
         ensures err { OnErr result ((self.new ≡ self.old) × (parked.new ≡ parked.old)) }
     {
-        let heard = self.hear(alloc, parked.seat, &mut *parked.unit)?;
+        let heard = self.hear_in_full(alloc, parked.seat, &mut *parked.unit)?;
         parked.events = self.events_of(parked.seat);
         Ok(heard)
     }

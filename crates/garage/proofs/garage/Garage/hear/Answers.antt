@@ -1,6 +1,7 @@
 use Rattle.std.proofs.Common.{refl, subst, sym, ◌∙◌}
 use Rattle.journal.specs.Journal.{GarageValue}
-use Rattle.garage.specs.Answers.{Hears}
+use Rattle.fault_memory.specs.Memory.{MemoryValue}
+use Rattle.garage.specs.Answers.{Hears, PassesNext}
 use Rattle.garage.specs.declared.answers.HeardOne.TheVariants as heard
 use Rattle.garage.proofs.HearLemmas.{passes_this}
 use Rattle.garage.proofs.Lent.{on_err}
@@ -15,7 +16,8 @@ returns-then-passes_over-clause-ok g c =
     let unit = c.args.unit.now in
     let m = (goal.Unit-dyn g unit).memory_of unit.1 in
     let next = sym c.next_for.ensures ∙ c.in-Some.is in
-    let passes = passes_this c.args.self.now c.passes_over.new.self c.args.seat m c.in-Some.frame (c.passes_over.ensures.passed c.if-passes_over.true) next in
+    let passed = subst (λ (m : MemoryValue). PassesNext c.args.self.now c.args.seat m c.passes_over.new.self) c.memory.ensures (c.passes_over.ensures.passed c.if-passes_over.true) in
+    let passes = passes_this c.args.self.now c.passes_over.new.self c.args.seat m c.in-Some.frame passed next in
     (unit.1, refl, hears_quietly c.args.self.now c.passes_over.new.self c.args.seat c.in-Some.frame m ((goal.Unit-dyn g unit).Answers unit.1) unit.1 next passes)
 
 pub returns-in_err-react-clause-unasked : goal.returns-in_err-react-clause-unasked

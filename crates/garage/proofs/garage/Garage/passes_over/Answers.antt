@@ -6,11 +6,11 @@ use Rattle.garage.proofs.Standing.{place_few, place_within, unit_now}
 use Rattle.garage.proofs.garage.Garage.passes_over.Goals as goal
 
 pub pass_over-requires-clause-next : goal.pass_over-requires-clause-next
-pass_over-requires-clause-next g c =
+pass_over-requires-clause-next c =
     next_there c.self.inside c.args.seat c.requires.next.0 c.self.invariant (next_inside c.self.inside c.args.self.now c.args.seat c.requires.next.0 c.self.view_is c.requires.next.1)
 
 pub pass_over-requires-clause-few : goal.pass_over-requires-clause-few
-pass_over-requires-clause-few g c =
+pass_over-requires-clause-few c =
     let a = c.self.inside in
     let u = unit_now a c.args.self.now c.args.seat c.self.view_is c.requires.unit in
     let h = place_within a c.args.seat c.self.invariant u in
@@ -18,7 +18,7 @@ pass_over-requires-clause-few g c =
     let w = c.self.invariant.within in let l = c.self.invariant.few in let t = f.events in omega arith
 
 pub invariant_of-self-2 : goal.invariant_of-self-2
-invariant_of-self-2 g c =
+invariant_of-self-2 c =
     let a = c.self.inside in
     let seat = c.args.seat in
     let fits = c.has_room.ensures.0 c.if-not-has_room.false in
@@ -27,7 +27,7 @@ invariant_of-self-2 g c =
     refl c.pass_over.ensures.noted c.pass_over.ensures.traffic (record { posts = refl; stations = refl }) (ap (λ (y : Place). set a.places.items (seat - a.stations) y) c.pass_over.ensures.place) refl refl refl (omega arith)
 
 pub returns-clause-passed : goal.returns-clause-passed
-returns-clause-passed g c = λ t.
+returns-clause-passed c = λ t.
     (let a = c.self.inside in
     let seat = c.args.seat in
     let x = c.index_mut-place.result.now in (
@@ -45,6 +45,6 @@ returns-clause-passed g c = λ t.
         journal = c.pass_over.new.journal;
       })
           c.args.self.now seat _ _ c.requires.next.0 x c.absorb.new.self c.self.view_is c.self.invariant refl
-          c.pass_over.ensures.noted c.memory.ensures (unit_now a c.args.self.now seat c.self.view_is c.requires.unit) c.pass_over.ensures.lawful
+          c.pass_over.ensures.noted refl (unit_now a c.args.self.now seat c.self.view_is c.requires.unit) c.pass_over.ensures.lawful
           (next_inside a c.args.self.now seat c.requires.next.0 c.self.view_is c.requires.next.1) c.index_mut-place.ensures.value (c.requires.next.2.heard x.node c.absorb.new.self (c.absorb.ensures.absorbed c.if-not-absorb.false)),
     ))

@@ -324,7 +324,7 @@ impl Garage {
         Ok(heard)
     }
 
-    /// A unit in its seat hears all that it has not heard.
+    /// A unit in its seat hears all that it has not heard. A single frame it hears in full: `pass_in_turn` has found that it must.
     ///
     /// Refused where the journal has no room, then where there is no memory; what was heard before stays.
     pub(crate) fn catch_up(&mut self, alloc: Global, parked: &mut Parked) -> Result<(), GarageError>
@@ -336,6 +336,10 @@ impl Garage {
             self.new parked.new) }
     {
         let unheard = self.unheard(parked.seat);
+        if unheard == 1 {
+            let _ = self.hear_seated(alloc, parked)?;
+            return Ok(());
+        }
         let _ = self.hear_some(alloc, parked, unheard)?;
         Ok(())
     }

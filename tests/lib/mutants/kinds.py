@@ -7,6 +7,7 @@ PAGE, ORDERS, END, TEXTS, FILES = "bounds of a page", "orders to live", "what is
 ROOF, PIPE, DESTDIR, SIGNALS, PYTHON = "one ceiling for all buses", "status of a pipe", "DESTDIR", "sockets and signals", "Python"
 WHEEL, RANGES, TESTER, CONSTANTS = "what a wheel says", "ranges from both sides", "orders to tester", "constants"
 BUILT, INSTALLED, HELP, WORDS = "what is built first", "what is installed", "help without a program", "words of an error"
+BUILDERS, VERSIONS, LIMITS, LEFT = "what c/build and python/build make", "another version", "limits of pages", "what an ended run left"
 KINDS = (
     (PAGE, "crates/watch_page/src/table.rt", "if listed.order == order && written < MOST && page.has_room(ROOM) {",
      "if listed.order == order && written <= MOST && page.has_room(ROOM) {"),
@@ -17,7 +18,6 @@ KINDS = (
     (PAGE, "crates/watch_page/src/since.rt", "match changes.get(..MOST) {", "match changes.get(..MOST - 1) {"),
     (PAGE, "crates/watch_page/src/identifications.rt", "if written < MOST && !vin.is_empty() && !is_before(view.buses, number, place, vin) {",
      "if written <= MOST && !vin.is_empty() && !is_before(view.buses, number, place, vin) {"),
-    (PAGE, "crates/watch_page/src/standing.rt", "if count >= MOST {", "if count > MOST {"),
     (PAGE, "crates/picture/src/picture.rt", "if self.lanes.len() >= LANES {", "if self.lanes.len() >= LANES - 1 {"),
     (PAGE, "crates/picture/src/history.rt", "if self.first.len() < FIRST {", "if self.first.len() < FIRST - 1 {"),
     (ORDERS, "crates/live_lines/src/orders.rt", "CodeChange::Unpend => FaultChange::Unpend { spn, fmi },", "CodeChange::Unpend => FaultChange::Heal { spn, fmi },"),
@@ -81,6 +81,15 @@ KINDS = (
     (WORDS, "python/hidzgula/listener.py", 'raise TypeError("a listener cannot be copied")', 'raise TypeError("a lisxener cannot be copied")'),
     (WORDS, "python/hidzgula/candump.py", 'raise TypeError("a log is a file, its bytes or its lines, and no text: open the file")',
      'raise TypeError("a log is a file, its bytes or xts lines, and no text: open the file")'),
+    (BUILDERS, "c/build", "prefix=${PREFIX:-/usr/local}", "prefix=${PREFIX:-/x/local}"),
+    (BUILDERS, "c/build", 'need "$ar" "$of_debian"', 'need "$ar" "$of_dxbian"'),
+    (BUILDERS, "python/build", 'rm -f "$out"/*.whl', ":"),
+    (VERSIONS, "release/version", "return False", "return True"),
+    (VERSIONS, "release/version", 'if numbers != version.split(".")[:2]:', 'if False and (numbers != version.split(".")[:2]):'),
+    (LIMITS, "python/hidzgula/serve/server.py", "MOST_RUNS = 2", "MOST_RUNS = 3"),
+    (LEFT, "python/hidzgula/fleet/parts.py", 'with replacing(path_of(folder, digest)) as new, open(new, "wb") as file:',
+     'with replacing(path_of(folder, digest)) as new, open(new, "xb") as file:'),
+    (WORDS, "python/hidzgula/serve/server.py", 'return self._tell(503, ["too many browsers follow this bus"])', 'return self._tell(503, ["too many browsers follow this xus"])'),
     (WHEEL, "python/wheel_backend.py", "Requires-Python: >=3.9", "Requires-Python: >=3.8"),
     (WHEEL, "python/wheel_backend.py", "Provides-Extra: pytest", "Provides-Extra: pytes"),
     (WHEEL, "python/wheel_backend.py", 'return f"py3-none-manylinux_2_17_{target}"', 'return f"py3-none-manylinux_2_1_{target}"'),

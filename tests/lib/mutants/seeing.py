@@ -34,7 +34,7 @@ WITHOUT_PROOF = ("refuse_memory", "fail_streams", "faults", "refuse_live", "refu
 WITHOUT_PROGRAM = ("harness", "contracts", "one_home", "reading_list", "names_in_docs", "constants", "install")
 # The parts that try a script, where that is not plain by its name in them.
 TRYING = {"run_program": ("run/signals", "run/install"), "install_program": ("run/install", "run/c"), "program_for": ("run/signals", "run/install"), "j1939bench": ("run/signals",),
-          "pages/answer": ("run/pages_of_help",)}
+          "pages/answer": ("run/pages_of_help",), "python/build": ("run/release", "run/python")}
 
 # The parts that stand on the library for C: they are left out where c/build has not made it.
 OF_THE_LIBRARY = ("run/c", "run/python", "run/random_units", "run/chosen_names", "run/fleet", "run/serve", "run/release")
@@ -185,10 +185,10 @@ def parts_about(path):
         return [["run/constants"]]
     if path.rpartition("/")[0] in PYTHON_FOLDERS:
         return PYTHON_FOLDERS[path.rpartition("/")[0]]
-    if path.startswith("python/"):
-        return [["run/python"], *([["run/fleet"], ["run/serve"]] if path.endswith(("program.py", "candump.py", "table.py")) else [])]
     if path in TRYING:
         return [it for it in every_part() if it[0] in TRYING[path]]
+    if path.startswith("python/"):
+        return [["run/python"], *([["run/fleet"], ["run/serve"]] if path.endswith(("program.py", "candump.py", "table.py")) else [])]
     name = path.rpartition("/")[2]
     words = ("c/build", "hidzgula_station.h") if path.startswith("c/") else (name,)
     if path.startswith("release/"):

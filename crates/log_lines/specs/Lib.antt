@@ -1,2 +1,4 @@
 pub mod Absence
+pub mod Clock
 pub mod Looks
+pub mod ReadLines

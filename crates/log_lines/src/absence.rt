@@ -162,6 +162,7 @@ impl Absence {
         ensures told { self.now.has_told ≡ true → result ≡ ended }
         ensures absent { is_whole ≡ true → self.now.has_told ≡ false → result.is_unread ≡ true }
         ensures bad { result.bad ≡ ended.bad }
+        ensures fault { result.fault ≡ None → ended.fault ≡ None }
     {
         if !is_whole || self.has_told {
             return ended;

@@ -1,22 +1,37 @@
 //! The times of the lines of a log, as far as they count.
-ghost use Rattle.std.specs.Prelude.{◌≡◌, IfOk};
+ghost use Rattle.std.specs.Prelude.{◌≡◌, IfOk, OnOk};
+ghost use Rattle.candump_line.specs.Content.{time_of};
 ghost use Rattle.candump_line.specs.Times.{is_counted};
+ghost use Rattle.candump_line.specs.declared.times.Times.TheVariants.{Unseen};
+ghost use Rattle.log_lines.specs.Clock.{times_with};
 
 use candump_line::{Line, Times};
 use std::io;
 use std::io::Write;
+use std::marker::Model;
 
 /// The times of a log: those that are since the line before count for nothing.
-#[derive(Clone, Copy)]
+#[derive(Drop)]
 pub struct LineClock {
     times: Times,
     /// Whether a frame had no time before any had one.
     has_untimed: bool,
 }
 
+/// Seen as whether times count by the lines so far.
+impl Model for LineClock {
+    ghost use Rattle.candump_line.specs.declared.times.Times.{Times as TimesSoFar};
+
+    ghost Value = { TimesSoFar };
+
+    ghost view = { λ c. c.times };
+}
+
 impl LineClock {
     /// No line was read.
-    pub fn new() -> LineClock {
+    pub fn new() -> LineClock
+        ensures { result ≡ Unseen }
+    {
         LineClock {
             times: Times::Unseen,
             has_untimed: false,
@@ -35,7 +50,8 @@ impl LineClock {
         line: &[u8],
         said: &Line<'_>,
     ) -> io::Result<bool>
-        ensures { IfOk result (λ counts. counts ≡ is_counted self.new.times) }
+        ensures counts { IfOk result (λ counts. counts ≡ is_counted self.new) }
+        ensures times { OnOk result (self.new ≡ times_with self.old line.now (time_of said.now)) }
     {
         if self.times.is_counted() {
             return Ok(true);
@@ -52,7 +68,8 @@ impl LineClock {
         line: &[u8],
         said: &Line<'_>,
     ) -> io::Result<bool>
-        ensures { IfOk result (λ counts. counts ≡ is_counted self.new.times) }
+        ensures counts { IfOk result (λ counts. counts ≡ is_counted self.new) }
+        ensures times { OnOk result (self.new ≡ times_with self.old line.now (time_of said.now)) }
     {
         let Some(time) = said.time() else {
             self.note_untimed(said);
@@ -71,7 +88,7 @@ impl LineClock {
 
     /// Keeps that a frame has no time.
     fn note_untimed(&mut self, said: &Line<'_>)
-        ensures { self.new.times ≡ self.old.times }
+        ensures { self.new ≡ self.old }
     {
         if let Line::Frame { .. } = said {
             self.has_untimed = true;

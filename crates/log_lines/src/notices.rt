@@ -1,4 +1,5 @@
 //! What is told beside the output of a run over lines.
+ghost use Rattle.std.specs.Prelude.{◌≢◌, None, OnErr};
 
 use crate::bad_lines::BadLines;
 use crate::fault::{LinesEnd, LogFault};
@@ -48,7 +49,9 @@ impl Notices {
 
     /// How a run ended that came to the end of the input or not, or failed. Tells on `errors` how many bad lines were not told; and
     /// of a whole input in which no line is a frame what it looks like.
-    pub fn ended<E: Write>(&self, errors: &mut E, end: Result<bool, LogFault>) -> LinesEnd {
+    pub fn ended<E: Write>(&self, errors: &mut E, end: Result<bool, LogFault>) -> LinesEnd
+        ensures { OnErr end (result.fault ≢ None) }
+    {
         let bad = self.bad.total();
         let (is_unread, told) = match self.tell_rest(errors, end.unwrap_or(false)) {
             Ok(is_unread) => (is_unread, None),

@@ -1,3 +1,10 @@
+ghost use Rattle.std.specs.Prelude.{◌≡◌, IfOk, List, OnOk, is_some, ℕ};
+ghost use Rattle.bus_watch.specs.Hearing.{AreShown};
+ghost use Rattle.bus_watch.specs.Told.{Beginning, Told};
+ghost use Rattle.watch_reports.specs.CsvRows.{TellsCsv, names_before};
+ghost use Rattle.watch_reports.specs.CsvUnits.{StandEach, watches_rows};
+ghost use Rattle.watch_reports.specs.declared.form.WatchForm.TheVariants.{Csv};
+
 use crate::kept::PageHistory;
 use crate::options::WatchOptions;
 use bus_watch::{BusShown, Buses, WatchSettings};
@@ -19,7 +26,9 @@ impl Heard {
     ///
     /// # Errors
     /// Memory was refused.
-    pub(crate) fn new(alloc: Global, options: &WatchOptions<'_>) -> Result<Heard, AllocError> {
+    pub(crate) fn new(alloc: Global, options: &WatchOptions<'_>) -> Result<Heard, AllocError>
+        ensures { IfOk result (λ h. AreShown options.now.settings options.now.bus h.buses) }
+    {
         let buses = Buses::new(alloc, options.settings, options.bus);
         let kept = PageHistory::new(
             alloc,
@@ -46,7 +55,9 @@ impl Heard {
     }
 
     /// Until when each newest message was heard is told before a report.
-    pub(crate) fn settle(&mut self) {
+    pub(crate) fn settle(&mut self)
+        ensures { self.new.buses ≡ self.old.buses }
+    {
         self.kept.settle(&self.buses);
     }
 
@@ -94,7 +105,11 @@ impl Heard {
         options: &ReportOptions<'_>,
         part: ReportPart,
         since: Option<&[SinceThen]>,
-    ) -> Result<(), LogFault> {
+    ) -> Result<(), LogFault>
+        ensures csv { options.now.form ≡ Csv → (b : ℕ → Beginning) (ts : ℕ → List Told) → StandEach b ts self.now.buses.watches
+            → OnOk result (TellsCsv (W.contents writer.old) (W.contents writer.new) (names_before part self.now.buses.each (is_some options.now.signals))
+            (watches_rows b ts 0 self.now.buses.watches)) }
+    {
         let told = Reported {
             buses: &self.buses,
             ever: self.kept.ever(),
@@ -110,7 +125,9 @@ impl Heard {
 fn of_both(
     buses: Result<Buses, AllocError>,
     kept: Result<PageHistory, AllocError>,
-) -> Result<Heard, AllocError> {
+) -> Result<Heard, AllocError>
+    ensures { IfOk result (λ h. buses ≡ Ok h.buses) }
+{
     match (buses, kept) {
         (Ok(buses), Ok(kept)) => Ok(Heard { buses, kept }),
         _ => Err(AllocError),

@@ -1,3 +1,5 @@
+ghost use Rattle.std.specs.Prelude.{◌≡◌};
+
 use bus_watch::{BusShown, Limits, WatchSettings};
 use candump_line::Time;
 use log_lines::ClockForm;
@@ -37,7 +39,11 @@ pub struct WatchOptions<'a> {
 
 impl<'a> WatchOptions<'a> {
     /// What of it says how changes and reports are written.
-    fn reports(&self) -> ReportOptions<'a> {
+    fn reports(&self) -> ReportOptions<'a>
+        ensures form { result.form ≡ self.now.form }
+        ensures assumed { result.assumed ≡ self.now.assumed }
+        ensures signals { result.signals ≡ self.now.signals }
+    {
         ReportOptions {
             form: self.form,
             assumed: self.assumed,
@@ -49,7 +55,12 @@ impl<'a> WatchOptions<'a> {
     }
 
     /// The same, as a run goes by it.
-    pub(crate) fn run(&self) -> RunOptions<'a> {
+    pub(crate) fn run(&self) -> RunOptions<'a>
+        ensures form { result.reports.form ≡ self.now.form }
+        ensures assumed { result.reports.assumed ≡ self.now.assumed }
+        ensures signals { result.reports.signals ≡ self.now.signals }
+        ensures strict { result.strict ≡ self.now.strict }
+    {
         RunOptions {
             reports: self.reports(),
             limits: self.limits,

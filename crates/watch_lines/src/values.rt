@@ -1,4 +1,6 @@
 //! The values of signals, beside the watches: of frames that a watch heard, and of which it is told.
+ghost use Rattle.std.specs.Prelude.{◌≡◌, IfOk, OnOk};
+ghost use Rattle.bus_watch.specs.Hearing.{HaveHeard, hearers_of};
 
 use crate::heard::Heard;
 use crate::kept::PageHistory;
@@ -19,7 +21,10 @@ pub(crate) fn hear_values(
     heard: &mut Heard,
     signals: &Signals,
     line: &Line<'_>,
-) -> Result<Hearers, LogFault> {
+) -> Result<Hearers, LogFault>
+    ensures who { IfOk result (λ h. h ≡ hearers_of heard.old.buses line.now) }
+    ensures heard { OnOk result (HaveHeard line.now heard.old.buses heard.new.buses) }
+{
     let Heard { buses, kept } = heard;
     let before = buses.counts().frames;
     let hearers = buses.hear(alloc, line)?;

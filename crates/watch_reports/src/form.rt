@@ -36,16 +36,22 @@ pub fn write_changes<W: Write>(
     start: &Option<Time>,
     number: u64,
     changes: &Changes,
-) -> Result<(), LogFault> {
+) -> Result<(), LogFault>
+    ensures csv { options.now.form ≡ WatchForm.Csv → writer.new ≡ writer.old }
+{
     let mut report = ReportWriter::new(writer);
-    if let Some(name) = &changes.lost {
-        let lost = WatchChange::NoAddress { name: *name };
-        write_change(&mut report, one, options, start, number, &lost);
-    }
-    if let Some(change) = &changes.change {
-        write_change(&mut report, one, options, start, number, change);
-    }
+    let lost = lost_by(changes);
+    write_change(&mut report, one, options, start, number, &lost);
+    write_change(&mut report, one, options, start, number, &changes.change);
     report.end()
+}
+
+/// That a NAME lost its address, where one did.
+fn lost_by(changes: &Changes) -> Option<WatchChange> {
+    match changes.lost {
+        Some(name) => Some(WatchChange::NoAddress { name }),
+        None => None,
+    }
 }
 
 /// Writes what is told of the messages that the line of this number broke.
@@ -58,7 +64,9 @@ pub fn write_broken<W: Write>(
     options: &ReportOptions<'_>,
     start: &Option<Time>,
     number: u64,
-) -> Result<(), LogFault> {
+) -> Result<(), LogFault>
+    ensures csv { options.now.form ≡ WatchForm.Csv → writer.new ≡ writer.old }
+{
     let mut report = ReportWriter::new(writer);
     match options.form {
         WatchForm::Text => broken::write_lines(&mut report, one, options, start),
@@ -78,7 +86,9 @@ pub fn write_identification<W: Write>(
     options: &ReportOptions<'_>,
     start: &Option<Time>,
     number: u64,
-) -> Result<(), LogFault> {
+) -> Result<(), LogFault>
+    ensures csv { options.now.form ≡ WatchForm.Csv → writer.new ≡ writer.old }
+{
     let mut report = ReportWriter::new(writer);
     match options.form {
         WatchForm::Text => identifications::write_line(&mut report, one, options, start),
@@ -88,15 +98,20 @@ pub fn write_identification<W: Write>(
     report.end()
 }
 
-/// Writes a change that the line of this number made.
+/// Writes a change that the line of this number made, where it made one.
 fn write_change<W: Write>(
     report: &mut ReportWriter<'_, W>,
     one: &BusWatch,
     options: &ReportOptions<'_>,
     start: &Option<Time>,
     number: u64,
-    change: &WatchChange,
-) {
+    change: &Option<WatchChange>,
+)
+    ensures csv { options.now.form ≡ WatchForm.Csv → report.new ≡ report.old }
+{
+    let Some(change) = change else {
+        return;
+    };
     match options.form {
         WatchForm::Text => text::write_change(report, one, options, start, change),
         WatchForm::Json => objects::write_change(report, one, options, number, change),

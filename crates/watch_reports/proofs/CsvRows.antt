@@ -10,7 +10,8 @@ use Rattle.bus_model.specs.declared.who.Who.{Who}
 use Rattle.bus_model.specs.declared.who.Who.TheVariants.{Named, Unclaimed}
 use Rattle.name_field.specs.NameText.{name_text}
 use Rattle.watch_reports.specs.CsvCells.{behind_commas, since_text, unit_cells}
-use Rattle.watch_reports.specs.CsvRows.{AreRows, IsReportRow, Row, RowUnit, TellsCsv, WroteBus, WroteCsv, WroteName, WroteRows}
+use Rattle.watch_reports.specs.CsvRows.{AreRows, IsReportRow, Row, TellsCsv, WroteBus, WroteCsv, WroteName, WroteRows}
+use Rattle.watch_reports.specs.ReportUnits.{RowUnit}
 use Rattle.watch_reports.specs.Writing.{Wrote, WroteSome}
 use Rattle.watch_reports.specs.declared.report_writer.ReportWriter.{ReportWriter}
 use Rattle.watch_reports.proofs.Writing.{both, nothing}

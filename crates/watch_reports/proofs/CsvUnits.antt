@@ -1,6 +1,7 @@
 -- Rows of the units of watches.
-use Rattle.std.proofs.Common.{◌≡◌, ℕ, zero, suc, ◌+◌, ◌<◌, ◌≤◌, true, false, List, [], ◌∷◌, ◌++◌, Option, Some, None, length, take, get_or, arith, refl, sym, ap, subst, ◌∙◌, append_assoc}
-use Rattle.std.proofs.lemmas.List.{append-nil, length-take-le, take_all, take_more}
+use Rattle.std.proofs.Common.{◌≡◌, ℕ, suc, ◌+◌, ◌<◌, true, false, List, [], ◌∷◌, ◌++◌, Option, Some, None, length, take, get_or, arith, refl, sym, ap, subst, ◌∙◌}
+use Rattle.std.proofs.lemmas.List.{append-nil}
+use Rattle.std.proofs.lemmas.List.Concat.{flat_map-append}
 use Rattle.std.specs.Prelude.{codes}
 use Rattle.std.specs.Fmt.{decimal}
 use Rattle.bus_model.specs.declared.who.Who.{Who}
@@ -9,19 +10,27 @@ use Rattle.bus_watch.specs.Told.{Beginning, StandsForAll, Told}
 use Rattle.bus_watch.specs.declared.buses.BusWatch.{BusWatch}
 use Rattle.name_field.specs.NameText.{name_text}
 use Rattle.watch_reports.specs.CsvCells.{IsBusCell, NamesUnit, behind_commas, since_text, unit_cells}
-use Rattle.watch_reports.specs.CsvRows.{AreRows, IsReportRow, Row, WroteRows}
-use Rattle.watch_reports.specs.CsvUnits.{StandEach, rows_before, rows_if, shown_at_place, watch_rows, watches_rows}
+use Rattle.watch_reports.specs.CsvRows.{AreRows, IsReportRow, Row, WroteRows, rows_if, rows_of, unit_rows}
+use Rattle.watch_reports.specs.ReportUnits.{StandEach, shown_at_place, unit_if, units_before, reported_units, watch_units}
 use Rattle.watch_reports.specs.Writing.{Wrote}
 use Rattle.watch_reports.specs.declared.report_writer.ReportWriter.{ReportWriter}
 use Rattle.watch_reports.proofs.CsvRows.{rows_both}
+use Rattle.watch_reports.proofs.ReportUnits.{units_more}
 
 -- those of one place more
 pub place_more : {W : Type 0} (v : W → Option (List ℕ)) (s : Beginning) (ts : List Told) (one : BusWatch) (a b c : ReportWriter W) (place : ℕ)
-    → WroteRows v a b (rows_before s ts one place) → WroteRows v b c (rows_if s ts one (shown_at_place s ts one.watch place))
-    → WroteRows v a c (rows_before s ts one (place + 1))
+    → WroteRows v a b (rows_of (units_before s ts one place)) → WroteRows v b c (rows_if s ts one (shown_at_place s ts one.watch place))
+    → WroteRows v a c (rows_of (units_before s ts one (place + 1)))
 place_more v s ts one a b c place h k =
     let next : suc place ≡ place + 1 = omega arith in
-    subst (λ p. WroteRows v a c (rows_before s ts one p)) next (rows_both v a b c _ _ h k)
+    let who = shown_at_place s ts one.watch place in
+    let all : rows_of (units_before s ts one (suc place)) ≡ rows_of (units_before s ts one place) ++ rows_if s ts one who =
+    flat_map-append unit_rows (units_before s ts one place) (unit_if s ts one who) ∙ ap (λ rows. rows_of (units_before s ts one place) ++ rows) (of_one who) in
+    subst (λ p. WroteRows v a c (rows_of (units_before s ts one p))) next (subst (λ rows. WroteRows v a c rows) (sym all) (rows_both v a b c _ _ h k))
+  where
+    of_one : (who : Option Who) → rows_of (unit_if s ts one who) ≡ rows_if s ts one who
+    of_one None = refl
+    of_one (Some who) = append-nil _
 
 -- each row is some text
 some_name : (who : Who) → (cell : List ℕ) × NamesUnit who cell
@@ -51,22 +60,14 @@ failed v a b rows more e h =
     clash q = cc
 
 -- those of one watch more
-rows_last : (b : ℕ → Beginning) (ts : ℕ → List Told) (n : ℕ) (ws : List BusWatch) (one : BusWatch)
-    → watches_rows b ts n (ws ++ one ∷ []) ≡ watches_rows b ts n ws ++ watch_rows (b (n + length ws)) (ts (n + length ws)) one
-rows_last b ts n [] one = ap (λ k. watch_rows (b k) (ts k) one ++ []) (omega arith) ∙ append-nil _
-rows_last b ts n (w ∷ ws) one =
-    let there : suc n + length ws ≡ n + length (w ∷ ws) = omega arith in
-    ap (λ l. watch_rows (b n) (ts n) w ++ l) (rows_last b ts (suc n) ws one ∙ ap (λ k. watches_rows b ts (suc n) ws ++ watch_rows (b k) (ts k) one) there)
-    ∙ sym (append_assoc (watch_rows (b n) (ts n) w) (watches_rows b ts (suc n) ws) (watch_rows (b (n + length (w ∷ ws))) (ts (n + length (w ∷ ws))) one))
-
 pub watch_more : {W : Type 0} (v : W → Option (List ℕ)) (s : ℕ → Beginning) (ts : ℕ → List Told) (a b c : ReportWriter W) (ws : List BusWatch) (i : ℕ) (x : BusWatch) → i < length ws
-    → x ≡ get_or ws i x → StandEach s ts ws → WroteRows v a b (watches_rows s ts 0 (take i ws))
-    → ((r : Beginning) (us : List Told) → StandsForAll r us x.watch → WroteRows v b c (watch_rows r us x)) → WroteRows v a c (watches_rows s ts 0 (take (i + 1) ws))
+    → x ≡ get_or ws i x → StandEach s ts ws → WroteRows v a b (rows_of (reported_units s ts 0 (take i ws)))
+    → ((r : Beginning) (us : List Told) → StandsForAll r us x.watch → WroteRows v b c (rows_of (watch_units r us x))) → WroteRows v a c (rows_of (reported_units s ts 0 (take (i + 1) ws)))
 watch_more v s ts a b c ws i x l is stand h k =
     let one = get_or ws i x in
     let stands : StandsForAll (s i) (ts i) x.watch = subst (λ y. StandsForAll (s i) (ts i) y.watch) (sym is) (stand i x l) in
-    let own : WroteRows v b c (watch_rows (s i) (ts i) one) = subst (λ y. WroteRows v b c (watch_rows (s i) (ts i) y)) is (k (s i) (ts i) stands) in
-    let place : 0 + length (take i ws) ≡ i = omega (arith, length-take-le i ws (omega (arith, l))) in
-    let all : watches_rows s ts 0 (take i ws ++ one ∷ []) ≡ watches_rows s ts 0 (take i ws) ++ watch_rows (s i) (ts i) one =
-    rows_last s ts 0 (take i ws) one ∙ ap (λ p. watches_rows s ts 0 (take i ws) ++ watch_rows (s p) (ts p) one) place in
-    subst (λ rows. WroteRows v a c rows) (sym (ap (λ ls. watches_rows s ts 0 ls) (take_more ws i x l) ∙ all)) (rows_both v a b c _ _ h own)
+    let own : WroteRows v b c (rows_of (watch_units (s i) (ts i) one)) = subst (λ y. WroteRows v b c (rows_of (watch_units (s i) (ts i) y))) is (k (s i) (ts i) stands) in
+    let before = reported_units s ts 0 (take i ws) in
+    let all : rows_of (reported_units s ts 0 (take (i + 1) ws)) ≡ rows_of before ++ rows_of (watch_units (s i) (ts i) one) =
+    ap rows_of (units_more s ts ws i x l) ∙ flat_map-append unit_rows before (watch_units (s i) (ts i) one) in
+    subst (λ rows. WroteRows v a c rows) (sym all) (rows_both v a b c _ _ h own)

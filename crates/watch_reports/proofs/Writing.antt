@@ -8,7 +8,7 @@ use Rattle.std.specs.Fmt.{digits, padded_integral, format_spec}
 use Rattle.hex_text.specs.Hex.{hex_digits}
 use Rattle.hex_text.specs.Printed.{padded_hex}
 use Rattle.watch_reports.specs.CsvCells.{behind_commas}
-use Rattle.watch_reports.specs.Writing.{Wrote, WroteSome}
+use Rattle.watch_reports.specs.Writing.{Wrote, WroteAs, WroteSome}
 use Rattle.watch_reports.specs.declared.report_writer.ReportWriter.{ReportWriter}
 
 pub nothing : {W : Type 0} (v : W → Option (List ℕ)) (a : ReportWriter W) → Wrote v a a []
@@ -31,6 +31,9 @@ some_nothing v a = record { text = []; is = nothing v a }
 
 pub some_text : {W : Type 0} (v : W → Option (List ℕ)) (a b : ReportWriter W) (t : List ℕ) → Wrote v a b t → WroteSome v a b
 some_text v a b t h = record { text = t; is = h }
+
+pub some_as : {W : Type 0} (v : W → Option (List ℕ)) (a b : ReportWriter W) (Is : List ℕ → Type 0) → WroteAs v a b Is → WroteSome v a b
+some_as v a b Is h = record { text = h.text; is = h.is }
 
 pub some_both : {W : Type 0} (v : W → Option (List ℕ)) (a b c : ReportWriter W) → WroteSome v a b → WroteSome v b c → WroteSome v a c
 some_both v a b c h k = record { text = h.text ++ k.text; is = both v a b c h.text k.text h.is k.is }

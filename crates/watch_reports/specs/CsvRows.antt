@@ -1,26 +1,20 @@
 -- Which rows the report has as comma-separated values.
-use Rattle.std.specs.Prelude.{◌≡◌, ℕ, Bool, if◌then◌else◌, List, [], ◌∷◌, ◌++◌, Option, Some, None, map, option_map, string_bytes, codes}
+use Rattle.std.specs.Prelude.{◌≡◌, ℕ, ◌||◌, Bool, if◌then◌else◌, List, [], ◌∷◌, ◌++◌, Option, Some, None, map, codes}
 use Rattle.std.specs.Io.KnownBytes.{Appends}
 use Rattle.std.specs.List.{flat_map}
 use Rattle.bus_model.specs.declared.who.Who.{Who}
+use Rattle.bus_watch.specs.Told.{Beginning, Told}
 use Rattle.bus_watch.specs.declared.buses.BusWatch.{BusWatch}
 use Rattle.bus_watch.specs.declared.run.EntryRun.{EntryRun}
-use Rattle.bus_watch.specs.Runs.{entries_came, runs_by}
-use Rattle.bus_watch.specs.Told.{Beginning, Told, all_said}
 use Rattle.dm_messages.specs.declared.kind.Kind.{Kind}
+use Rattle.dm_messages.specs.declared.kind.Kind.TheVariants.{Dm1, Dm2, Dm6}
 use Rattle.trouble_code.specs.Code.{Code}
 use Rattle.watch_reports.specs.CsvCells.{IsBusCell, NamesUnit, behind_commas, code_cells, doubt_cells, number_cell, run_cells, unit_cells}
+use Rattle.watch_reports.specs.ReportUnits.{RowUnit, UnitRuns, are_some, unit_said, with_runs}
 use Rattle.watch_reports.specs.Writing.{Wrote}
 use Rattle.watch_reports.specs.declared.options.ReportPart.{ReportPart}
 use Rattle.watch_reports.specs.declared.options.ReportPart.TheVariants.{Before, Last}
-use Rattle.watch_reports.specs.declared.rows.ToldUnit.{ToldUnit}
 use Rattle.watch_reports.specs.declared.report_writer.ReportWriter.{ReportWriter}
-
--- a unit of which rows are told, its address, if it has one, and its bus, where each is watched
-pub record RowUnit : Type 0 where
-  pub who : Who
-  pub address : Option ℕ
-  pub bus : Option (List ℕ)
 
 -- a row: the cells behind the one that names the unit, up to that of the bus
 pub record Row : Type 0 where
@@ -59,10 +53,6 @@ pub record WroteBus {W : Type 0} (contents : W → Option (List ℕ)) (old new :
   pub on : IsBusCell bus text
   pub is : Wrote contents old new text
 
--- a unit of a watch
-abbrev pub unit_in : ToldUnit → BusWatch → RowUnit
-unit_in unit one = record { who = unit.who; address = unit.address; bus = option_map string_bytes one.bus }
-
 -- of a run of equal entries, and one of its codes
 abbrev pub code_row : RowUnit → Kind → EntryRun → Option Code → Row
 code_row unit kind run code = record { unit = unit; cells = number_cell unit.address ∷ (run_cells kind run ++ (code_cells code ++ doubt_cells run)) }
@@ -79,13 +69,20 @@ run_rows unit kind run = rows_of_codes unit kind run run.shown.codes
 abbrev pub bare_row : RowUnit → Row
 bare_row unit = record { unit = unit; cells = number_cell unit.address ∷ [] ∷ [] ∷ [] ∷ [] ∷ [] ∷ [] ∷ [] ∷ [] ∷ [] ∷ [] ∷ [] }
 
--- the runs of a unit and kind, by what was said
-abbrev pub runs_said : Beginning → List Told → Who → Kind → List EntryRun
-runs_said b ts who kind = runs_by (entries_came b.selection b.contests (all_said b ts).moments who kind)
+-- the rows of a unit: those of its DM1, DM2 and DM6 messages; one where it has none
+abbrev pub kinds_rows : UnitRuns → List Row
+kinds_rows u = flat_map (run_rows u.unit Dm1) u.dm1 ++ (flat_map (run_rows u.unit Dm2) u.dm2 ++ flat_map (run_rows u.unit Dm6) u.dm6)
 
--- the rows of a unit and kind
-abbrev pub kind_rows : Beginning → List Told → RowUnit → Kind → List Row
-kind_rows b ts unit kind = flat_map (run_rows unit kind) (runs_said b ts unit.who kind)
+abbrev pub unit_rows : UnitRuns → List Row
+unit_rows u = if are_some u.dm1 || (are_some u.dm2 || are_some u.dm6) then kinds_rows u else (bare_row u.unit ∷ [])
+
+abbrev pub rows_if : Beginning → List Told → BusWatch → Option Who → List Row
+rows_if b ts one None = []
+rows_if b ts one (Some who) = unit_rows (with_runs b ts (unit_said b ts one who))
+
+-- the rows of these units
+abbrev pub rows_of : List UnitRuns → List Row
+rows_of us = flat_map unit_rows us
 
 -- the names of the values: that of the bus where each is watched, and those of signals where values are kept
 abbrev pub if_so : Bool → List ℕ → List ℕ

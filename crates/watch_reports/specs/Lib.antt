@@ -1,4 +1,6 @@
 pub mod Writing
 pub mod CsvCells
+pub mod ReportUnits
 pub mod CsvRows
-pub mod CsvUnits
+pub mod Json
+pub mod ReportObject

@@ -13,3 +13,9 @@ Wrote contents old new text =
 pub record WroteSome {W : Type 0} (contents : W → Option (List ℕ)) (old new : ReportWriter W) : Type 0 where
   pub text : List ℕ
   pub is : Wrote contents old new text
+
+-- a text of which this is so
+pub record WroteAs {W : Type 0} (contents : W → Option (List ℕ)) (old new : ReportWriter W) (Is : List ℕ → Type 0) : Type 0 where
+  pub text : List ℕ
+  pub such : Is text
+  pub is : Wrote contents old new text

@@ -1,5 +1,7 @@
 //! Messages that were half joined and ended without being whole, as lines and as objects: no memory is asked for.
 
+ghost use Rattle.watch_reports.specs.Writing.{WroteSome};
+
 use crate::object_parts::{write_bus as write_bus_key, write_destination, write_time, write_who};
 use crate::options::ReportOptions;
 use crate::report_writer::ReportWriter;
@@ -59,14 +61,19 @@ fn write_line<W: Write>(
     let count = broken.count;
     let word = kind_word(broken.kind);
     let unit = WhoWords(broken.who, options.units);
-    write!(report, " broken {count}: {word} of {unit}");
+    report.behind(" broken ", count);
+    report.behind(": ", word);
+    report.behind(" of ", unit);
     if broken.to != GLOBAL_ADDRESS {
         let to = address_words(broken.to);
-        write!(report, " to {to}");
+        report.behind(" to ", to);
     }
     let (read, of) = (broken.read, broken.of);
     let why = BrokenWords(broken.why);
-    writeln!(report, ", {read} of {of} packets: {why}");
+    report.behind(", ", read);
+    report.behind(" of ", of);
+    report.behind(" packets: ", why);
+    report.text("\n");
 }
 
 /// Writes an object for each message that the line of this number broke.
@@ -76,8 +83,8 @@ pub(crate) fn write_objects<W: Write>(
     number: u64,
 ) {
     for broken in one.watch.broken() {
-        write!(report, "{{\"line\":{number}");
-        write_time(report, "time", &one.watch.now());
+        report.behind("{\"line\":", number);
+        write_time(report, ",\"time\":", &one.watch.now());
         write_object(report, one, broken);
         write_bus_key(report, one);
         report.text("}\n");
@@ -90,16 +97,21 @@ fn write_object<W: Write>(
     broken: &BrokenMessage,
 ) {
     let count = broken.count;
-    write!(report, ",\"event\":\"broken\",\"count\":{count},");
+    report.behind(",\"event\":\"broken\",\"count\":", count);
+    report.text(",");
     write_who(report, &one.watch, &broken.who);
     let word = kind_word(broken.kind);
-    write!(report, ",\"kind\":\"{word}\"");
+    report.behind(",\"kind\":\"", word);
+    report.text("\"");
     write_destination(report, broken.to);
     let (read, of) = (broken.read, broken.of);
     let why = BrokenWords(broken.why);
-    write!(report, ",\"read\":{read},\"of\":{of},\"why\":\"{why}\"");
+    report.behind(",\"read\":", read);
+    report.behind(",\"of\":", of);
+    report.behind(",\"why\":\"", why);
+    report.text("\"");
     if let BrokenBy::Abort { by, .. } = broken.why {
-        write!(report, ",\"by\":{by}");
+        report.behind(",\"by\":", by);
     }
 }
 
@@ -114,16 +126,26 @@ pub(crate) fn write_count_line<W: Write>(report: &mut ReportWriter<'_, W>, one: 
 
 fn text_count<W: Write>(report: &mut ReportWriter<'_, W>, one: &BusWatch, broken: u64, open: u64) {
     crate::text_report::write_bus_name(report, one);
-    writeln!(report, "broken {broken} open {open}");
+    report.behind("broken ", broken);
+    report.behind(" open ", open);
+    report.text("\n");
 }
 
 /// The same of all buses: two keys of the report.
-pub(crate) fn write_count_keys<W: Write>(report: &mut ReportWriter<'_, W>, buses: &Buses) {
+pub(crate) fn write_count_keys<W: Write>(report: &mut ReportWriter<'_, W>, buses: &Buses)
+    ensures { WroteSome W.contents report.old report.new }
+{
+    let (broken, open) = broken_in_all(buses);
+    report.behind(",\"broken\":", broken);
+    report.behind(",\"open\":", open);
+}
+
+fn broken_in_all(buses: &Buses) -> (u64, u64) {
     let mut broken = 0u64;
     let mut open = 0u64;
     for one in buses.watches() {
         broken = broken.saturating_add(one.watch.broken_in_all());
         open = open.saturating_add(one.watch.half_joined());
     }
-    write!(report, ",\"broken\":{broken},\"open\":{open}");
+    (broken, open)
 }

@@ -16,7 +16,7 @@ use can_frame::GLOBAL_ADDRESS;
 use candump_line::Time;
 use dm_messages::Kind;
 use dm_words::NO_COUNT;
-use safe_text::{Seen, SeenCharacter};
+use safe_text::SeenCharacter;
 use shop_texts::{Texts, UnitTexts, unclaimed_words};
 use std::io::Write;
 use trouble_code::{Dtc, Lamps};
@@ -28,7 +28,7 @@ pub(crate) fn write_name<W: Write>(report: &mut ReportWriter<'_, W>, who: &Who)
     ensures { WroteName W.contents report.old report.new who.now }
 {
     match *who {
-        Who::Named(name) => write!(report, "{name}"),
+        Who::Named(name) => report.value(name),
         Who::Unclaimed { address, gaps } => write_unclaimed(report, address, gaps),
     }
 }
@@ -45,7 +45,8 @@ fn write_unclaimed<W: Write>(report: &mut ReportWriter<'_, W>, address: u8, gaps
 fn write_address<W: Write>(report: &mut ReportWriter<'_, W>, address: u8, words: &'static str)
     ensures { Wrote W.contents report.old report.new (codes "\"address " ++ decimal address ++ codes ", " ++ words.now) }
 {
-    write!(report, "\"address {address}, {words}");
+    report.behind("\"address ", address);
+    report.behind(", ", words);
 }
 
 /// The gap of missed frames, counted from 1, since which nobody was; nothing where there was none.
@@ -53,7 +54,7 @@ fn write_since<W: Write>(report: &mut ReportWriter<'_, W>, gaps: u64)
     ensures { Wrote W.contents report.old report.new (since_text gaps) }
 {
     if gaps > 0 {
-        write!(report, " since gap {gaps}");
+        report.behind(" since gap ", gaps);
     }
 }
 
@@ -86,7 +87,7 @@ pub(crate) fn write_number<W: Write>(report: &mut ReportWriter<'_, W>, number: O
     ensures { Wrote W.contents report.old report.new (codes "," ++ number_cell number) }
 {
     match number {
-        Some(number) => write!(report, ",{number}"),
+        Some(number) => report.behind(",", number),
         None => report.text(","),
     }
 }
@@ -96,12 +97,12 @@ fn write_values<W: Write>(report: &mut ReportWriter<'_, W>, kind: Kind, run: &En
     ensures { Wrote W.contents report.old report.new (behind_commas (run_cells kind run.now)) }
 {
     let kind = kind_word(kind);
-    write!(report, ",{kind}");
+    report.behind(",", kind);
     write_time(report, run.first);
     write_time(report, run.last);
     let times = run.times;
-    write!(report, ",{times}");
-    write_lamps(report, run.shown.lamps);
+    report.behind(",", times);
+    write_lamps(report, ",", run.shown.lamps);
 }
 
 /// A time, where there is one.
@@ -109,18 +110,25 @@ pub(crate) fn write_time<W: Write>(report: &mut ReportWriter<'_, W>, time: Optio
     ensures { Wrote W.contents report.old report.new (codes "," ++ time_cell time) }
 {
     match time {
-        Some(time) => write!(report, ",{time}"),
+        Some(time) => report.behind(",", time),
         None => report.text(","),
     }
 }
 
-/// The two bytes of lamps in four digits.
+/// The two bytes of lamps in four digits, behind this.
+pub(crate) fn write_lamps<W: Write>(report: &mut ReportWriter<'_, W>, front: &str, lamps: Lamps)
+    ensures { Wrote W.contents report.old report.new (front.now ++ lamps_cell lamps) }
+{
+    report.text(front);
+    write_lamp_bytes(report, lamps);
+}
+
 #[tactic(auto, using(crate::proofs::Writing::two_digits))]
-fn write_lamps<W: Write>(report: &mut ReportWriter<'_, W>, lamps: Lamps)
-    ensures { Wrote W.contents report.old report.new (codes "," ++ lamps_cell lamps) }
+fn write_lamp_bytes<W: Write>(report: &mut ReportWriter<'_, W>, lamps: Lamps)
+    ensures { Wrote W.contents report.old report.new (lamps_cell lamps) }
 {
     let [lamp, flash] = lamps.to_bytes();
-    write!(report, ",{lamp:02X}{flash:02X}");
+    write!(report, "{lamp:02X}{flash:02X}");
 }
 
 /// The SPN, the FMI and the count of a code; the count is empty where it is not available, and all are without a code.
@@ -130,7 +138,9 @@ fn write_code<W: Write>(report: &mut ReportWriter<'_, W>, code: Option<&Dtc>)
     match code {
         Some(code) => {
             let (spn, fmi) = (code.spn(), code.fmi());
-            write!(report, ",{spn},{fmi},");
+            report.behind(",", spn);
+            report.behind(",", fmi);
+            report.text(",");
             write_count(report, code.count());
         }
         None => report.text(",,,"),
@@ -142,7 +152,7 @@ fn write_count<W: Write>(report: &mut ReportWriter<'_, W>, count: u8)
     ensures { Wrote W.contents report.old report.new (count_cell count) }
 {
     if count != NO_COUNT {
-        write!(report, "{count}");
+        report.value(count);
     }
 }
 
@@ -150,9 +160,10 @@ fn write_count<W: Write>(report: &mut ReportWriter<'_, W>, count: u8)
 fn write_doubt<W: Write>(report: &mut ReportWriter<'_, W>, contested: bool, to: u8)
     ensures { Wrote W.contents report.old report.new (behind_commas (truth_cell contested ∷ to_cell to ∷ [])) }
 {
-    write!(report, ",{contested},");
+    report.behind(",", contested);
+    report.text(",");
     if to != GLOBAL_ADDRESS {
-        write!(report, "{to}");
+        report.value(to);
     }
 }
 
@@ -178,7 +189,10 @@ pub(crate) fn write_fields<W: Write>(report: &mut ReportWriter<'_, W>, who: &Who
     let fields = name.fields();
     let (function, instance) = (fields.function, fields.function_instance);
     let (manufacturer, identity) = (fields.manufacturer, fields.identity);
-    write!(report, ",{function},{instance},{manufacturer},{identity}");
+    report.behind(",", function);
+    report.behind(",", instance);
+    report.behind(",", manufacturer);
+    report.behind(",", identity);
 }
 
 /// The shop's text for the unit; behind a comma that for the code; and behind one the NAME as no spreadsheet takes it for a
@@ -191,46 +205,48 @@ pub(crate) fn write_texts<W: Write>(
 )
     ensures { WroteSome W.contents report.old report.new }
 {
-    write_unit_text(report, options.units, who);
+    write_text(report, unit_text(options.units, who).unwrap_or(""));
     report.text(",");
     write_code_text(report, options.texts, code);
     write_name_hex(report, who);
 }
 
-/// The shop's text for a unit.
-#[tactic(auto, using(crate::proofs::Writing::some_text, crate::proofs::Writing::some_both, crate::proofs::Writing::some_nothing))]
-fn write_unit_text<W: Write>(report: &mut ReportWriter<'_, W>, units: &UnitTexts, who: &Who)
-    ensures { WroteSome W.contents report.old report.new }
-{
-    if let Who::Named(name) = *who {
-        if let Some(text) = units.text_of(name) {
-            write_text(report, text);
-        }
+/// The shop's text for a unit, where there is one.
+pub(crate) fn unit_text<'a>(units: &'a UnitTexts, who: &Who) -> Option<&'a str> {
+    match *who {
+        Who::Named(name) => units.text_of(name),
+        Who::Unclaimed { .. } => None,
     }
 }
 
-#[tactic(auto, using(crate::proofs::Writing::some_text, crate::proofs::Writing::some_both, crate::proofs::Writing::some_nothing))]
+#[tactic(auto, using(crate::proofs::Writing::some_text))]
 fn write_name_hex<W: Write>(report: &mut ReportWriter<'_, W>, who: &Who)
     ensures { WroteSome W.contents report.old report.new }
 {
     match *who {
-        Who::Named(name) => write!(report, ",0x{name}"),
+        Who::Named(name) => report.behind(",0x", name),
         Who::Unclaimed { .. } => report.text(","),
     }
 }
 
 /// The shop's text for a code.
-#[tactic(auto, using(crate::proofs::Writing::some_text, crate::proofs::Writing::some_both, crate::proofs::Writing::some_nothing))]
 fn write_code_text<W: Write>(report: &mut ReportWriter<'_, W>, texts: &Texts, code: Option<&Dtc>)
     ensures { WroteSome W.contents report.old report.new }
 {
+    match code_texts(texts, code) {
+        (text, Some(more)) => write_both(report, text, more),
+        (text, None) => write_text(report, text),
+    }
+}
+
+/// The shop's texts for a code, where there are any.
+fn code_texts<'a>(texts: &'a Texts, code: Option<&Dtc>) -> (&'a str, Option<&'a str>) {
     if let Some(code) = code {
-        match texts.parts_of(code.spn(), code.fmi()) {
-            Some((text, Some(more))) => write_both(report, text, more),
-            Some((text, None)) => write_text(report, text),
-            None => {}
+        if let Some(parts) = texts.parts_of(code.spn(), code.fmi()) {
+            return parts;
         }
     }
+    ("", None)
 }
 
 /// A text for the SPN and one for the FMI, in quotes.
@@ -238,51 +254,30 @@ fn write_both<W: Write>(report: &mut ReportWriter<'_, W>, text: &str, more: &str
     ensures { WroteSome W.contents report.old report.new }
 {
     report.text("\"");
-    write_guard(report, text.as_bytes());
-    write_quoted(report, text);
+    report.text(guard_before(text.as_bytes()));
+    write_letters(report, text);
     report.text(", ");
-    write_quoted(report, more);
+    write_letters(report, more);
     report.text("\"");
 }
 
 /// A text from outside, in quotes where it has a comma or a quote. Neither a terminal nor a spreadsheet obeys it: what is hidden
 /// stands by its number, and an apostrophe stands before what begins as a formula.
-#[tactic(auto, using(crate::proofs::Writing::some_text, crate::proofs::Writing::some_both, crate::proofs::Writing::some_nothing))]
 pub(crate) fn write_text<W: Write>(report: &mut ReportWriter<'_, W>, text: &str)
     ensures { WroteSome W.contents report.old report.new }
 {
     let quote = quote_around(text.as_bytes());
-    if quote.is_empty() {
-        write_unquoted(report, text);
-    } else {
-        write_in_quotes(report, text);
-    }
+    report.text(quote);
+    report.text(guard_before(text.as_bytes()));
+    write_letters(report, text);
+    report.text(quote);
 }
 
-fn write_unquoted<W: Write>(report: &mut ReportWriter<'_, W>, text: &str)
-    ensures { WroteSome W.contents report.old report.new }
-{
-    write_guard(report, text.as_bytes());
-    let seen = Seen::line(text);
-    write!(report, "{seen}");
-}
-
-fn write_in_quotes<W: Write>(report: &mut ReportWriter<'_, W>, text: &str)
-    ensures { WroteSome W.contents report.old report.new }
-{
-    report.text("\"");
-    write_guard(report, text.as_bytes());
-    write_quoted(report, text);
-    report.text("\"");
-}
-
-/// An apostrophe before a text that begins as a formula does, so that no spreadsheet takes it for one.
-#[tactic(auto, using(crate::proofs::Writing::some_text, crate::proofs::Writing::some_both, crate::proofs::Writing::some_nothing))]
-pub(crate) fn write_guard<W: Write>(report: &mut ReportWriter<'_, W>, text: &[u8])
-    ensures { WroteSome W.contents report.old report.new }
-{
-    if let Some(b'=' | b'+' | b'-' | b'@') = text.first() {
-        report.text("'");
+/// An apostrophe before a text that begins as a formula does, so that no spreadsheet takes it for one; else nothing.
+pub(crate) fn guard_before(text: &[u8]) -> &'static str {
+    match text.first() {
+        Some(b'=' | b'+' | b'-' | b'@') => "'",
+        _ => "",
     }
 }
 
@@ -297,8 +292,8 @@ pub(crate) fn quote_around(text: &[u8]) -> &'static str {
 }
 
 /// A text, each quote twice.
-#[tactic(auto, using(crate::proofs::Writing::some_text, crate::proofs::Writing::some_both, crate::proofs::Writing::some_nothing))]
-fn write_quoted<W: Write>(report: &mut ReportWriter<'_, W>, text: &str)
+#[tactic(auto, using(crate::proofs::Writing::some_both, crate::proofs::Writing::some_nothing))]
+fn write_letters<W: Write>(report: &mut ReportWriter<'_, W>, text: &str)
     ensures { WroteSome W.contents report.old report.new }
 {
     for letter in text.chars() {
@@ -306,13 +301,11 @@ fn write_quoted<W: Write>(report: &mut ReportWriter<'_, W>, text: &str)
     }
 }
 
-#[tactic(auto, using(crate::proofs::Writing::some_text, crate::proofs::Writing::some_both, crate::proofs::Writing::some_nothing))]
 fn write_letter<W: Write>(report: &mut ReportWriter<'_, W>, letter: char)
     ensures { WroteSome W.contents report.old report.new }
 {
-    let before = quote_before(letter);
-    let seen = SeenCharacter::line(letter);
-    write!(report, "{before}{seen}");
+    report.text(quote_before(letter));
+    report.value(SeenCharacter::line(letter));
 }
 
 /// A quote before a quote.

@@ -15,8 +15,11 @@ use trouble_code::{Dtc, LampName};
 pub(crate) const EVER_HEADER: &str =
     ",ever_lamp,ever_lamp_times,ever_lamp_first,ever_lamp_last,last_heard,silent,ever_code_times,ever_code_first,ever_code_last";
 
+/// As many empty values.
+pub(crate) const NO_EVER: &str = ",,,,,,,,,";
+
 /// The values of a row of this kind and code, each behind a comma; empty where it is not kept what the unit told.
-#[tactic(auto, using(crate::proofs::Writing::some_text, crate::proofs::Writing::some_both, crate::proofs::Writing::some_nothing))]
+#[tactic(auto, using(crate::proofs::Writing::some_text))]
 pub(crate) fn write_ever<W: Write>(
     report: &mut ReportWriter<'_, W>,
     bus: &ReportedBus<'_>,
@@ -28,7 +31,7 @@ pub(crate) fn write_ever<W: Write>(
 {
     match bus.ever_of(who, kind) {
         Some(ever) => write_told(report, ever, bus.silence(who, kind), code),
-        None => write_no_ever(report),
+        None => report.text(NO_EVER),
     }
 }
 
@@ -46,16 +49,8 @@ fn write_told<W: Write>(
     write_code(report, ever, code);
 }
 
-/// As many empty values.
-#[tactic(auto, using(crate::proofs::Writing::some_text, crate::proofs::Writing::some_both, crate::proofs::Writing::some_nothing))]
-pub(crate) fn write_no_ever<W: Write>(report: &mut ReportWriter<'_, W>)
-    ensures { WroteSome W.contents report.old report.new }
-{
-    report.text(",,,,,,,,,");
-}
-
 /// The worst lamp that was on at any time, and when.
-#[tactic(auto, using(crate::proofs::Writing::some_text, crate::proofs::Writing::some_both, crate::proofs::Writing::some_nothing))]
+#[tactic(auto, using(crate::proofs::Writing::some_text))]
 fn write_worst<W: Write>(report: &mut ReportWriter<'_, W>, ever: &Ever)
     ensures { WroteSome W.contents report.old report.new }
 {
@@ -78,25 +73,24 @@ fn write_seen<W: Write>(report: &mut ReportWriter<'_, W>, seen: &Appearance)
     ensures { WroteSome W.contents report.old report.new }
 {
     let times = seen.times;
-    write!(report, ",{times}");
+    report.behind(",", times);
     write_time(report, seen.first);
     write_time(report, seen.last);
 }
 
 /// For how many whole seconds a DM1 was not heard, where it should have been.
-#[tactic(auto, using(crate::proofs::Writing::some_text, crate::proofs::Writing::some_both, crate::proofs::Writing::some_nothing))]
+#[tactic(auto, using(crate::proofs::Writing::some_text))]
 fn write_silence<W: Write>(report: &mut ReportWriter<'_, W>, silence: Option<u64>)
     ensures { WroteSome W.contents report.old report.new }
 {
-    report.text(",");
-    if let Some(silence) = silence {
-        let seconds = whole_seconds(silence);
-        write!(report, "{seconds}");
+    match silence {
+        Some(silence) => report.behind(",", whole_seconds(silence)),
+        None => report.text(","),
     }
 }
 
 /// How often a code came, and when it was listed first and last.
-#[tactic(auto, using(crate::proofs::Writing::some_text, crate::proofs::Writing::some_both, crate::proofs::Writing::some_nothing))]
+#[tactic(auto, using(crate::proofs::Writing::some_text))]
 fn write_code<W: Write>(report: &mut ReportWriter<'_, W>, ever: &Ever, code: Option<&Dtc>)
     ensures { WroteSome W.contents report.old report.new }
 {

@@ -51,7 +51,8 @@ fn write_kind<W: Write>(
 fn write_front<W: Write>(report: &mut ReportWriter<'_, W>, bus: &ReportedBus<'_>, kind: Kind) {
     write_bus_name(report, bus.one);
     let word = kind_word(kind);
-    write!(report, "  ever {word}: ");
+    report.behind("  ever ", word);
+    report.text(": ");
 }
 
 /// The worst lamp that was on at any time, and when.
@@ -64,7 +65,8 @@ fn write_worst<W: Write>(
     match ever.worst_lamp() {
         Some(lamp) => {
             let word = lamp_words(lamp);
-            write!(report, "{word} ");
+            report.value(word);
+            report.text(" ");
             write_seen(report, bus, clock, ever.lamp(lamp));
         }
         None => report.text("no lamp"),
@@ -80,7 +82,9 @@ fn write_seen<W: Write>(
 ) {
     let times = seen.times;
     let word = if times == 1 { "time" } else { "times" };
-    write!(report, "{times} {word}, first ");
+    report.value(times);
+    report.behind(" ", word);
+    report.text(", first ");
     write_time(report, clock, &bus.start, seen.first);
     report.text(", last ");
     write_time(report, clock, &bus.start, seen.last);
@@ -102,7 +106,7 @@ fn write_heard<W: Write>(
 fn write_silence<W: Write>(report: &mut ReportWriter<'_, W>, silence: Option<u64>) {
     if let Some(silence) = silence {
         let words = DurationWords(silence);
-        write!(report, ", not heard for the last {words}");
+        report.behind(", not heard for the last ", words);
     }
     report.text("\n");
 }
@@ -121,7 +125,8 @@ fn write_codes<W: Write>(
     let more = ever.more();
     if more > 0 {
         write_front(report, bus, kind);
-        writeln!(report, "further codes, up to {more} at once");
+        report.behind("further codes, up to ", more);
+        report.text(" at once\n");
     }
 }
 
@@ -134,7 +139,9 @@ fn write_code<W: Write>(
 ) {
     write_front(report, bus, kind);
     let (spn, fmi) = (one.code.spn(), one.code.fmi());
-    write!(report, "{spn}/{fmi} ");
+    report.value(spn);
+    report.behind("/", fmi);
+    report.text(" ");
     write_seen(report, bus, options.clock, &one.seen);
     write_text(report, options.texts, one.code);
     report.text("\n");
@@ -147,5 +154,5 @@ fn write_text<W: Write>(report: &mut ReportWriter<'_, W>, texts: &Texts, code: D
         texts,
         codes: codes.as_slice(),
     };
-    write!(report, "{words}");
+    report.value(words);
 }

@@ -1,7 +1,8 @@
 ghost use Rattle.std.specs.Prelude.{◌≡◌, ℕ, List, OnOk, is_some};
 ghost use Rattle.bus_watch.specs.Told.{Beginning, Told};
-ghost use Rattle.watch_reports.specs.CsvRows.{TellsCsv, names_before};
-ghost use Rattle.watch_reports.specs.CsvUnits.{StandEach, watches_rows};
+ghost use Rattle.watch_reports.specs.CsvRows.{TellsCsv, names_before, rows_of};
+ghost use Rattle.watch_reports.specs.ReportObject.{TellsObject};
+ghost use Rattle.watch_reports.specs.ReportUnits.{StandEach, reported_units};
 
 use crate::options::{ReportOptions, ReportPart, Reported};
 use crate::report_writer::ReportWriter;
@@ -119,13 +120,15 @@ pub fn write_report<W: Write>(
 ) -> Result<(), LogFault>
     ensures csv { options.now.form ≡ WatchForm.Csv → (b : ℕ → Beginning) (ts : ℕ → List Told) → StandEach b ts told.now.buses.now.watches
         → OnOk result (TellsCsv (W.contents writer.old) (W.contents writer.new) (names_before part told.now.buses.now.each (is_some options.now.signals))
-        (watches_rows b ts 0 told.now.buses.now.watches)) }
+        (rows_of (reported_units b ts 0 told.now.buses.now.watches))) }
+    ensures json { options.now.form ≡ WatchForm.Json → (b : ℕ → Beginning) (ts : ℕ → List Told) → StandEach b ts told.now.buses.now.watches
+        → OnOk result (TellsObject (W.contents writer.old) (W.contents writer.new) part (reported_units b ts 0 told.now.buses.now.watches)) }
 {
     match options.form {
         WatchForm::Csv => write_csv(writer, told, options, part),
-        WatchForm::Text | WatchForm::Json | WatchForm::Html => {
-            write_other(writer, told, options, part)
-        }
+        WatchForm::Json => write_json(writer, told, options, part),
+        WatchForm::Text => write_text(writer, told, options, part),
+        WatchForm::Html => Ok(()),
     }
 }
 
@@ -138,25 +141,36 @@ fn write_csv<W: Write>(
 ) -> Result<(), LogFault>
     ensures { (b : ℕ → Beginning) (ts : ℕ → List Told) → StandEach b ts told.now.buses.now.watches
         → OnOk result (TellsCsv (W.contents writer.old) (W.contents writer.new) (names_before part told.now.buses.now.each (is_some options.now.signals))
-        (watches_rows b ts 0 told.now.buses.now.watches)) }
+        (rows_of (reported_units b ts 0 told.now.buses.now.watches))) }
 {
     let mut report = ReportWriter::new(writer);
     rows::write_rows(&mut report, told, options, part);
     report.end()
 }
 
-/// Writes it in another form.
-fn write_other<W: Write>(
+/// Writes it as an object.
+fn write_json<W: Write>(
+    writer: &mut W,
+    told: &Reported<'_>,
+    options: &ReportOptions<'_>,
+    part: ReportPart,
+) -> Result<(), LogFault>
+    ensures { (b : ℕ → Beginning) (ts : ℕ → List Told) → StandEach b ts told.now.buses.now.watches
+        → OnOk result (TellsObject (W.contents writer.old) (W.contents writer.new) part (reported_units b ts 0 told.now.buses.now.watches)) }
+{
+    let mut report = ReportWriter::new(writer);
+    report_object::write_report(&mut report, told, options, part);
+    report.end()
+}
+
+/// Writes it for people.
+fn write_text<W: Write>(
     writer: &mut W,
     told: &Reported<'_>,
     options: &ReportOptions<'_>,
     part: ReportPart,
 ) -> Result<(), LogFault> {
     let mut report = ReportWriter::new(writer);
-    match options.form {
-        WatchForm::Text => text_report::write_report(&mut report, told, options, part),
-        WatchForm::Json => report_object::write_report(&mut report, told, options, part),
-        WatchForm::Csv | WatchForm::Html => {}
-    }
+    text_report::write_report(&mut report, told, options, part);
     report.end()
 }

@@ -2,7 +2,7 @@
 
 ghost use Rattle.watch_reports.specs.Writing.{WroteSome};
 
-use crate::cells::{quote_around, write_guard};
+use crate::cells::{guard_before, quote_around};
 use crate::object_parts::{write_bus as write_bus_key, write_time, write_who};
 use crate::options::ReportOptions;
 use crate::report_writer::ReportWriter;
@@ -45,7 +45,11 @@ pub(crate) fn write_line<W: Write>(
     let unit = WhoWords(*who, options.units);
     let mark = mark_behind(who);
     let told = IdentificationWords(*what, one.watch.identification(*who, *what));
-    writeln!(report, " {word} {unit}{mark} {told}");
+    report.behind(" ", word);
+    report.behind(" ", unit);
+    report.text(mark);
+    report.behind(" ", told);
+    report.text("\n");
 }
 
 /// What stands behind a unit, before what it told.
@@ -65,10 +69,11 @@ pub(crate) fn write_object<W: Write>(
     let Some(Teller { who, what }) = &one.watch.told_anew() else {
         return;
     };
-    write!(report, "{{\"line\":{number}");
-    write_time(report, "time", &one.watch.now());
+    report.behind("{\"line\":", number);
+    write_time(report, ",\"time\":", &one.watch.now());
     let word = word_of(*what);
-    write!(report, ",\"event\":\"{word}\",");
+    report.behind(",\"event\":\"", word);
+    report.text("\",");
     write_who(report, &one.watch, who);
     write_key(report, *what, one.watch.identification(*who, *what));
     write_bus_key(report, one);
@@ -80,7 +85,7 @@ pub(crate) fn write_in_row<W: Write>(report: &mut ReportWriter<'_, W>, watch: &W
     let vin = watch.identification(*who, Identification::Vehicle);
     if !vin.is_empty() {
         let vin = IdentificationWords(Identification::Vehicle, vin);
-        write!(report, "; VIN {vin}");
+        report.behind("; VIN ", vin);
     }
 }
 
@@ -96,52 +101,89 @@ pub(crate) fn write_below_row<W: Write>(
             write_bus_name(report, one);
             let word = word_of(what);
             let told = IdentificationWords(what, text);
-            writeln!(report, "  {word}: {told}");
+            report.behind("  ", word);
+            report.behind(": ", told);
+            report.text("\n");
         }
     }
 }
 
 /// As keys of an object, where the unit told them.
-pub(crate) fn write_keys<W: Write>(report: &mut ReportWriter<'_, W>, watch: &Watch, who: &Who) {
+#[tactic(auto, using(crate::proofs::Writing::some_both, crate::proofs::Writing::some_nothing))]
+pub(crate) fn write_keys<W: Write>(report: &mut ReportWriter<'_, W>, watch: &Watch, who: &Who)
+    ensures { WroteSome W.contents report.old report.new }
+{
     for what in IDENTIFICATIONS {
-        let text = watch.identification(*who, what);
-        if !text.is_empty() {
-            write_key(report, what, text);
-        }
+        write_key_if_told(report, what, watch.identification(*who, what));
+    }
+}
+
+#[tactic(auto, using(crate::proofs::Writing::some_nothing))]
+fn write_key_if_told<W: Write>(report: &mut ReportWriter<'_, W>, what: Identification, text: &[u8])
+    ensures { WroteSome W.contents report.old report.new }
+{
+    if !text.is_empty() {
+        write_key(report, what, text);
     }
 }
 
 /// A key: the VIN as text, the others as lists of their fields.
-fn write_key<W: Write>(report: &mut ReportWriter<'_, W>, what: Identification, text: &[u8]) {
-    let word = word_of(what);
-    write!(report, ",\"{word}\":");
+fn write_key<W: Write>(report: &mut ReportWriter<'_, W>, what: Identification, text: &[u8])
+    ensures { WroteSome W.contents report.old report.new }
+{
+    let (before, behind) = marks_around(what);
+    write_string_under(report, word_of(what), before, text);
+    report.text(behind);
+}
+
+/// What stands around the strings of an identification.
+fn marks_around(what: Identification) -> (&'static str, &'static str) {
     match what {
-        Identification::Vehicle => write_string(report, text),
-        _ => {
-            report.text("[");
-            write_string(report, text);
-            report.text("]");
-        }
+        Identification::Vehicle => ("\":\"", ""),
+        _ => ("\":[\"", "]"),
     }
 }
 
-/// A text in quotes, or several where it has a `*` between fields. A VIN has none.
-fn write_string<W: Write>(report: &mut ReportWriter<'_, W>, text: &[u8]) {
-    report.text("\"");
-    for byte in told_front(text) {
-        match *byte {
-            b'*' => report.text("\",\""),
-            b'"' => report.text("\\\""),
-            b'\\' => report.text("\\\\"),
-            byte => write_byte(report, byte, "\\\\x"),
-        }
-    }
+/// A text under a key, or several where it has a `*` between fields. A VIN has none.
+fn write_string_under<W: Write>(
+    report: &mut ReportWriter<'_, W>,
+    key: &str,
+    before: &str,
+    text: &[u8],
+)
+    ensures { WroteSome W.contents report.old report.new }
+{
+    report.text(",\"");
+    report.text(key);
+    report.text(before);
+    write_string_bytes(report, told_front(text));
     report.text(mark_of_cut(text));
     report.text("\"");
 }
 
+#[tactic(auto, using(crate::proofs::Writing::some_both, crate::proofs::Writing::some_nothing))]
+fn write_string_bytes<W: Write>(report: &mut ReportWriter<'_, W>, bytes: &[u8])
+    ensures { WroteSome W.contents report.old report.new }
+{
+    for byte in bytes {
+        write_string_byte(report, *byte);
+    }
+}
+
+#[tactic(auto, using(crate::proofs::Writing::some_text))]
+fn write_string_byte<W: Write>(report: &mut ReportWriter<'_, W>, byte: u8)
+    ensures { WroteSome W.contents report.old report.new }
+{
+    match byte {
+        b'*' => report.text("\",\""),
+        b'"' => report.text("\\\""),
+        b'\\' => report.text("\\\\"),
+        byte => write_byte(report, byte, "\\\\x"),
+    }
+}
+
 /// As values, each behind a comma.
-#[tactic(auto, using(crate::proofs::Writing::some_text, crate::proofs::Writing::some_both, crate::proofs::Writing::some_nothing))]
+#[tactic(auto, using(crate::proofs::Writing::some_both, crate::proofs::Writing::some_nothing))]
 pub(crate) fn write_values<W: Write>(report: &mut ReportWriter<'_, W>, watch: &Watch, who: &Who)
     ensures { WroteSome W.contents report.old report.new }
 {
@@ -158,13 +200,13 @@ fn write_value<W: Write>(report: &mut ReportWriter<'_, W>, text: &[u8])
     let quote = quote_around(text);
     report.text(",");
     report.text(quote);
-    write_guard(report, text);
+    report.text(guard_before(text));
     write_bytes(report, told_front(text));
     report.text(mark_of_cut(text));
     report.text(quote);
 }
 
-#[tactic(auto, using(crate::proofs::Writing::some_text, crate::proofs::Writing::some_both, crate::proofs::Writing::some_nothing))]
+#[tactic(auto, using(crate::proofs::Writing::some_both, crate::proofs::Writing::some_nothing))]
 fn write_bytes<W: Write>(report: &mut ReportWriter<'_, W>, bytes: &[u8])
     ensures { WroteSome W.contents report.old report.new }
 {
@@ -174,7 +216,7 @@ fn write_bytes<W: Write>(report: &mut ReportWriter<'_, W>, bytes: &[u8])
 }
 
 /// A byte of a value, a quote twice.
-#[tactic(auto, using(crate::proofs::Writing::some_text, crate::proofs::Writing::some_both, crate::proofs::Writing::some_nothing))]
+#[tactic(auto, using(crate::proofs::Writing::some_text))]
 fn write_told<W: Write>(report: &mut ReportWriter<'_, W>, byte: u8)
     ensures { WroteSome W.contents report.old report.new }
 {
@@ -185,13 +227,13 @@ fn write_told<W: Write>(report: &mut ReportWriter<'_, W>, byte: u8)
 }
 
 /// A byte that can be printed, and any other by its number, with this before it.
-#[tactic(auto, using(crate::proofs::Writing::some_text, crate::proofs::Writing::some_both, crate::proofs::Writing::some_nothing))]
+#[tactic(auto, using(crate::proofs::Writing::some_text))]
 fn write_byte<W: Write>(report: &mut ReportWriter<'_, W>, byte: u8, before: &'static str)
     ensures { WroteSome W.contents report.old report.new }
 {
     if byte > 31 && byte < 127 {
         let letter = char::from(byte);
-        write!(report, "{letter}");
+        report.value(letter);
     } else {
         write!(report, "{before}{byte:02X}");
     }

@@ -23,8 +23,8 @@ pub(crate) fn write_change<W: Write>(
     number: u64,
     change: &WatchChange,
 ) {
-    write!(report, "{{\"line\":{number}");
-    write_time(report, "time", &one.watch.now());
+    report.behind("{\"line\":", number);
+    write_time(report, ",\"time\":", &one.watch.now());
     write_event(report, &one.watch, options.texts, change);
     write_bus(report, one);
     write_unit_words(report, options.units, change);
@@ -86,7 +86,7 @@ fn write_unit<W: Write>(report: &mut ReportWriter<'_, W>, name: Name, address: O
 
 /// The address that nobody has claimed, of which a message came.
 fn write_unowned<W: Write>(report: &mut ReportWriter<'_, W>, source: u8) {
-    write!(report, ",\"event\":\"unowned\",\"address\":{source}");
+    report.behind(",\"event\":\"unowned\",\"address\":", source);
 }
 
 /// What the NAME says of a unit that claims or loses an address, and the shop's text for it.
@@ -97,7 +97,7 @@ fn write_unit_words<W: Write>(
 ) {
     match change {
         WatchChange::At { name, .. } | WatchChange::NoAddress { name } => {
-            write_fields(report, units, *name);
+            write_fields(report, units, &Who::Named(*name));
         }
         _ => {}
     }
@@ -113,10 +113,11 @@ fn write_ack<W: Write>(
 ) {
     let pgn = pgn.number();
     let answer = ControlWords(control);
-    write!(
-        report,
-        ",\"event\":\"ack\",\"name\":\"{name}\",\"control\":{control},\"pgn\":{pgn},\"answer\":\"{answer}\",\"requester\":{requester}"
-    );
+    report.behind(",\"event\":\"ack\",\"name\":\"", name);
+    report.behind("\",\"control\":", control);
+    report.behind(",\"pgn\":", pgn);
+    report.behind(",\"answer\":\"", answer);
+    report.behind("\",\"requester\":", requester);
 }
 
 /// The newest entry of a unit, with its number in the list, from 1.
@@ -128,11 +129,12 @@ fn write_entry<W: Write>(
     kind: Kind,
 ) {
     let word = kind_word(kind);
-    write!(report, ",\"event\":\"{word}\",");
+    report.behind(",\"event\":\"", word);
+    report.text("\",");
     write_who(report, watch, who);
     write_newest(report, texts, watch.runs(*who, kind).last());
     let entry = watch.entries(*who, kind);
-    write!(report, ",\"entry\":{entry}");
+    report.behind(",\"entry\":", entry);
 }
 
 /// What the newest entry shows.
@@ -163,14 +165,17 @@ fn write_unread<W: Write>(
 
 /// An event that is counted.
 fn write_event_count<W: Write>(report: &mut ReportWriter<'_, W>, event: &'static str, count: u64) {
-    write!(report, ",\"event\":\"{event}\",\"count\":{count}");
+    report.behind(",\"event\":\"", event);
+    report.behind("\",\"count\":", count);
 }
 
 /// The kind of a message that could not be read, where it went, if not to all, and why.
 fn write_why<W: Write>(report: &mut ReportWriter<'_, W>, kind: Kind, to: u8, why: ReadError) {
     let word = kind_word(kind);
-    write!(report, ",\"kind\":\"{word}\"");
+    report.behind(",\"kind\":\"", word);
+    report.text("\"");
     write_destination(report, to);
     let why = UnreadWords(why);
-    write!(report, ",\"why\":\"{why}\"");
+    report.behind(",\"why\":\"", why);
+    report.text("\"");
 }

@@ -1,6 +1,6 @@
 //! A writer that keeps in mind whether a write failed, so that this is asked once at the end, and not after each write.
 
-ghost use Rattle.std.specs.Prelude.{◌≡◌, false, IfSome, OnOk};
+ghost use Rattle.std.specs.Prelude.{◌≡◌, ◌++◌, false, IfSome, OnOk};
 ghost use Rattle.watch_reports.specs.Writing.{Wrote, WroteSome};
 
 use arrayvec::ArrayVec;
@@ -49,16 +49,31 @@ impl<'a, W: Write> ReportWriter<'a, W> {
         }
     }
 
-    /// Writes what `write!` is given.
-    pub(crate) fn write_fmt<D: Display + Drop>(&mut self, words: D)
-        ensures { IfSome (D.output words) (Wrote W.contents self.old self.new) }
+    /// Writes a value.
+    pub(crate) fn value<D: Display + Drop>(&mut self, value: D)
+        ensures { IfSome (D.output value) (Wrote W.contents self.old self.new) }
     {
         if self.has_failed {
             return;
         }
-        if self.writer.write_fmt(words).is_err() {
+        if self.writer.write_fmt(value).is_err() {
             self.has_failed = true;
         }
+    }
+
+    /// Writes a value behind a text.
+    pub(crate) fn behind<D: Display + Drop>(&mut self, front: &str, value: D)
+        ensures { IfSome (D.output value) (λ text. Wrote W.contents self.old self.new (front.now ++ text)) }
+    {
+        self.text(front);
+        self.value(value);
+    }
+
+    /// Writes what `write!` is given.
+    pub(crate) fn write_fmt<D: Display + Drop>(&mut self, words: D)
+        ensures { IfSome (D.output words) (Wrote W.contents self.old self.new) }
+    {
+        self.value(words);
     }
 
     /// Writes words of at most 512 bytes, of which no clause says what they are: they are held first, so that it is known that

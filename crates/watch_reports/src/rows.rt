@@ -4,20 +4,20 @@ ghost use Rattle.std.specs.Prelude.{◌≡◌, ◌∷◌, [], List, Some, ℕ, c
 ghost use Rattle.std.specs.List.{flat_map};
 ghost use Rattle.bus_watch.specs.Told.{Beginning, StandsForAll, Told};
 ghost use Rattle.watch_reports.specs.CsvRows as rows;
-ghost use Rattle.watch_reports.specs.CsvRows.{WroteCsv, WroteRows, bare_row, code_row, names_before, header_text, kind_rows, run_rows, unit_in};
-ghost use Rattle.watch_reports.specs.CsvUnits.{StandEach, kinds_rows, rows_if, shown_at_place, unit_rows, unit_said, watch_rows, watches_rows};
+ghost use Rattle.watch_reports.specs.CsvRows.{WroteCsv, WroteRows, bare_row, code_row, header_text, kinds_rows, names_before, rows_if, rows_of, run_rows, unit_rows};
+ghost use Rattle.watch_reports.specs.ReportUnits.{StandEach, runs_said, shown_at_place, unit_in, unit_said, reported_units, watch_units, with_runs};
 ghost use Rattle.watch_reports.specs.Writing.{Wrote, WroteSome};
 
 use crate::cells::{
     write_bare_cells, write_bus, write_cells, write_fields, write_name, write_text, write_texts,
 };
-use crate::ever_rows::{EVER_HEADER, write_ever, write_no_ever};
+use crate::ever_rows::{EVER_HEADER, NO_EVER, write_ever};
 use crate::identifications::{self, IDENTIFICATION_HEADER};
 use crate::options::{ReportOptions, ReportPart, Reported};
 use crate::report_writer::ReportWriter;
 use crate::reported_bus::ReportedBus;
 use crate::units::{address_of, has_entries, row_at, row_places};
-use crate::value_rows::{VALUE_HEADER, write_no_value, write_value_rows};
+use crate::value_rows::{NO_VALUE, VALUE_HEADER, write_value_rows};
 use bus_watch::{BusWatch, EntryRun, Who};
 use dm_messages::{Kind, Trouble};
 use dm_words::{TroubleWords, failure_mode_words};
@@ -48,7 +48,7 @@ pub(crate) fn write_rows<W: Write>(
 )
     ensures { (b : ℕ → Beginning) (ts : ℕ → List Told) → StandEach b ts told.now.buses.now.watches
         → WroteCsv W.contents report.old report.new (names_before part told.now.buses.now.each (is_some options.now.signals))
-        (watches_rows b ts 0 told.now.buses.now.watches) }
+        (rows_of (reported_units b ts 0 told.now.buses.now.watches)) }
 {
     write_head(report, part, told.buses.are_each(), options);
     write_watches(report, told, options);
@@ -62,7 +62,7 @@ fn write_watches<W: Write>(
     options: &ReportOptions<'_>,
 )
     ensures { (b : ℕ → Beginning) (ts : ℕ → List Told) → StandEach b ts told.now.buses.now.watches
-        → WroteRows W.contents report.old report.new (watches_rows b ts 0 told.now.buses.now.watches) }
+        → WroteRows W.contents report.old report.new (rows_of (reported_units b ts 0 told.now.buses.now.watches)) }
 {
     for (place, one) in told.buses.watches().iter().enumerate() {
         let bus = ReportedBus {
@@ -155,7 +155,7 @@ fn write_bus_rows<W: Write>(
     options: &ReportOptions<'_>,
 )
     ensures { (b : Beginning) (ts : List Told) → StandsForAll b ts bus.now.one.now.watch
-        → WroteRows W.contents report.old report.new (watch_rows b ts bus.now.one.now) }
+        → WroteRows W.contents report.old report.new (rows_of (watch_units b ts bus.now.one.now)) }
 {
     for place in 0..row_places(&bus.one.watch) {
         if report.has_failed() {
@@ -195,7 +195,7 @@ fn write_unit<W: Write>(
     who: &Who,
 )
     ensures { (b : Beginning) (ts : List Told) → StandsForAll b ts bus.now.one.now.watch
-        → WroteRows W.contents report.old report.new (unit_rows b ts (unit_said b ts bus.now.one.now who.now)) }
+        → WroteRows W.contents report.old report.new (unit_rows (with_runs b ts (unit_said b ts bus.now.one.now who.now))) }
 {
     let unit = ToldUnit {
         who: *who,
@@ -216,7 +216,7 @@ fn write_kinds<W: Write>(
     unit: &ToldUnit,
 )
     ensures { (b : Beginning) (ts : List Told) → StandsForAll b ts bus.now.one.now.watch
-        → WroteRows W.contents report.old report.new (kinds_rows b ts (unit_in unit.now bus.now.one.now)) }
+        → WroteRows W.contents report.old report.new (kinds_rows (with_runs b ts (unit_in unit.now bus.now.one.now))) }
 {
     write_runs(report, bus, options, unit, Kind::Dm1);
     write_runs(report, bus, options, unit, Kind::Dm2);
@@ -251,7 +251,7 @@ fn write_bare_more<W: Write>(
     ensures { WroteSome W.contents report.old report.new }
 {
     write_words(report, one, options, who);
-    write_no_values(report, options);
+    report.text(no_values(options));
 }
 
 /// The texts for a unit, as many empty values as what it told at any time has, and what it tells of itself.
@@ -264,7 +264,7 @@ pub(crate) fn write_words<W: Write>(
     ensures { WroteSome W.contents report.old report.new }
 {
     write_texts(report, options, who, None);
-    write_no_ever(report);
+    report.text(NO_EVER);
     report.text(",,");
     identifications::write_values(report, &one.watch, who);
 }
@@ -278,7 +278,7 @@ fn write_runs<W: Write>(
     kind: Kind,
 )
     ensures { (b : Beginning) (ts : List Told) → StandsForAll b ts bus.now.one.now.watch
-        → WroteRows W.contents report.old report.new (kind_rows b ts (unit_in unit.now bus.now.one.now) kind) }
+        → WroteRows W.contents report.old report.new (flat_map (run_rows (unit_in unit.now bus.now.one.now) kind) (runs_said b ts unit.now.who kind)) }
 {
     let runs = bus.one.watch.runs(unit.who, kind);
     write_each_run(report, bus, options, unit, kind, runs);
@@ -372,45 +372,45 @@ fn write_more<W: Write>(
     write_failure_mode(report, code);
     write_trouble(report, of.run);
     identifications::write_values(report, &bus.one.watch, who);
-    write_no_values(report, options);
+    report.text(no_values(options));
 }
 
 /// As many empty values as a row of a signal has behind the others, where values of signals are kept.
-#[tactic(auto, using(crate::proofs::Writing::some_text, crate::proofs::Writing::some_both, crate::proofs::Writing::some_nothing))]
-fn write_no_values<W: Write>(report: &mut ReportWriter<'_, W>, options: &ReportOptions<'_>)
-    ensures { WroteSome W.contents report.old report.new }
-{
+fn no_values(options: &ReportOptions<'_>) -> &'static str {
     if options.signals.is_some() {
-        write_no_value(report);
+        NO_VALUE
+    } else {
+        ""
     }
 }
 
 /// What the FMI of a code says, behind a comma.
-#[tactic(auto, using(crate::proofs::Writing::some_text, crate::proofs::Writing::some_both, crate::proofs::Writing::some_nothing))]
 fn write_failure_mode<W: Write>(report: &mut ReportWriter<'_, W>, code: Option<&Dtc>)
     ensures { WroteSome W.contents report.old report.new }
 {
+    let words = match code {
+        Some(code) => failure_mode_words(code.fmi()),
+        None => "",
+    };
     report.text(",");
-    if let Some(code) = code {
-        write_text(report, failure_mode_words(code.fmi()));
-    }
+    write_text(report, words);
 }
 
 /// What of a run's entries is not read, behind a comma and in quotes, where they were read in part.
-#[tactic(auto, using(crate::proofs::Writing::some_text, crate::proofs::Writing::some_both, crate::proofs::Writing::some_nothing))]
+#[tactic(auto, using(crate::proofs::Writing::some_text))]
 fn write_trouble<W: Write>(report: &mut ReportWriter<'_, W>, run: &EntryRun)
     ensures { WroteSome W.contents report.old report.new }
 {
-    report.text(",");
-    if let Some(trouble) = run.trouble {
-        write_trouble_words(report, trouble);
+    match run.trouble {
+        Some(trouble) => write_trouble_words(report, trouble),
+        None => report.text(","),
     }
 }
 
 fn write_trouble_words<W: Write>(report: &mut ReportWriter<'_, W>, trouble: Trouble)
     ensures { WroteSome W.contents report.old report.new }
 {
-    report.text("\"");
+    report.text(",\"");
     report.words(TroubleWords(trouble));
     report.text("\"");
 }

@@ -41,7 +41,7 @@ pub(crate) fn write_change<W: Write>(
 pub(crate) fn write_bus<W: Write>(report: &mut ReportWriter<'_, W>, one: &BusWatch) {
     if let Some(bus) = &one.bus {
         let bus = Seen::line(bus.as_str());
-        write!(report, " {bus}");
+        report.behind(" ", bus);
     }
 }
 
@@ -75,19 +75,25 @@ fn write_at<W: Write>(
 ) {
     let unit = units.words_of(name);
     let address = address_words(address);
-    writeln!(report, " unit {name} ({unit}) at {address}");
+    report.behind(" unit ", name);
+    report.behind(" (", unit);
+    report.behind(") at ", address);
+    report.text("\n");
 }
 
 /// The NAME that lost its address.
 fn write_no_address<W: Write>(report: &mut ReportWriter<'_, W>, units: &UnitTexts, name: Name) {
     let unit = NameWords(name, units);
-    writeln!(report, " unit {unit} has no address");
+    report.behind(" unit ", unit);
+    report.text(" has no address\n");
 }
 
 /// How many frames were missed.
 fn write_missed<W: Write>(report: &mut ReportWriter<'_, W>, count: u32) {
     let words = missed_words();
-    writeln!(report, " missed {count}: {words}");
+    report.behind(" missed ", count);
+    report.behind(": ", words);
+    report.text("\n");
 }
 
 fn missed_words() -> &'static str {
@@ -97,10 +103,8 @@ fn missed_words() -> &'static str {
 /// The address that nobody has claimed, of which a message came.
 fn write_unowned<W: Write>(report: &mut ReportWriter<'_, W>, source: u8) {
     let source = SourceWords(source);
-    writeln!(
-        report,
-        " unowned DM from {source}, which nobody has claimed in what was read: not shown"
-    );
+    report.behind(" unowned DM from ", source);
+    report.text(", which nobody has claimed in what was read: not shown\n");
 }
 
 /// What a NAME answered, whom, and of which group.
@@ -116,7 +120,11 @@ fn write_ack<W: Write>(
     let to = address_words(requester);
     let group = GroupWords(pgn, Audience::People);
     let unit = NameWords(name, units);
-    writeln!(report, " ack {unit}: {answer}, to {to}, of {group}");
+    report.behind(" ack ", unit);
+    report.behind(": ", answer);
+    report.behind(", to ", to);
+    report.behind(", of ", group);
+    report.text("\n");
 }
 
 /// When it was, by the clock that is asked for.
@@ -131,7 +139,7 @@ pub(crate) fn write_time<W: Write>(
         return;
     };
     match clock {
-        None | Some(ClockForm::Log) => write!(report, "{time}"),
+        None | Some(ClockForm::Log) => report.value(time),
         Some(clock) => write_clock(report, clock, start.unwrap_or(time), time),
     }
 }
@@ -150,14 +158,15 @@ fn write_clock<W: Write>(
         fraction: Fraction::Micros,
         with_date: true,
     };
-    write!(report, "{words}");
+    report.value(words);
 }
 
 /// Where a message went that could not be read, if not to all, and why.
 fn write_why<W: Write>(report: &mut ReportWriter<'_, W>, to: u8, why: ReadError) {
     write_destination(report, to);
     let why = UnreadWords(why);
-    writeln!(report, ": {why}");
+    report.behind(": ", why);
+    report.text("\n");
 }
 
 /// How many messages could not be read, and whose the newest of them is.
@@ -170,7 +179,9 @@ fn write_unread<W: Write>(
 ) {
     let word = kind_word(kind);
     let unit = WhoWords(*who, units);
-    write!(report, " unread {unread}: {word} of {unit}");
+    report.behind(" unread ", unread);
+    report.behind(": ", word);
+    report.behind(" of ", unit);
 }
 
 /// The newest entry of a unit.
@@ -203,7 +214,9 @@ fn write_sender<W: Write>(
         Who::Unclaimed { .. } => ":",
         Who::Named(_) => "",
     };
-    write!(report, " {word} {unit}{colon}");
+    report.behind(" ", word);
+    report.behind(" ", unit);
+    report.text(colon);
 }
 
 /// The lamps, the codes, whether the entry is contested, and where it went, if not to all.
@@ -212,7 +225,10 @@ fn write_shown<W: Write>(report: &mut ReportWriter<'_, W>, run: &EntryRun) {
     let bytes = LampBytes(run.shown.lamps);
     let codes = CodeWords(run.shown.codes.as_slice());
     let contested = if run.contested { " contested" } else { "" };
-    write!(report, " {lamps} ({bytes}); {codes}{contested}");
+    report.behind(" ", lamps);
+    report.behind(" (", bytes);
+    report.behind("); ", codes);
+    report.text(contested);
     write_destination(report, run.to);
 }
 
@@ -222,14 +238,14 @@ fn write_texts<W: Write>(report: &mut ReportWriter<'_, W>, texts: &Texts, run: &
         texts,
         codes: run.shown.codes.as_slice(),
     };
-    write!(report, "{words}");
+    report.value(words);
 }
 
 /// What of an entry is not read, where it was read in part.
 fn write_trouble<W: Write>(report: &mut ReportWriter<'_, W>, run: &EntryRun) {
     if let Some(trouble) = run.trouble {
         let words = TroubleWords(trouble);
-        write!(report, "; {words}");
+        report.behind("; ", words);
     }
 }
 
@@ -239,5 +255,5 @@ fn write_destination<W: Write>(report: &mut ReportWriter<'_, W>, to: u8) {
         return;
     }
     let to = address_words(to);
-    write!(report, " to {to}");
+    report.behind(" to ", to);
 }

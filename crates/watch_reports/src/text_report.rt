@@ -25,7 +25,8 @@ pub(crate) fn write_report<W: Write>(
     part: ReportPart,
 ) {
     if let ReportPart::Before { line, .. } = part {
-        writeln!(report, "over at line {line}, so far:");
+        report.behind("over at line ", line);
+        report.text(", so far:\n");
     }
     for (place, one) in told.buses.watches().iter().enumerate() {
         let bus = ReportedBus {
@@ -53,7 +54,8 @@ fn write_bus<W: Write>(
     write_bus_name(report, bus.one);
     let missed = bus.one.watch.missed_in_all();
     let unread = bus.one.watch.unreadable_in_all();
-    write!(report, "missed {missed} unread {unread}");
+    report.behind("missed ", missed);
+    report.behind(" unread ", unread);
     write_partly(report, bus.one.watch.partly_in_all());
     write_count_line(report, bus.one);
 }
@@ -61,7 +63,7 @@ fn write_bus<W: Write>(
 /// How many messages were read in part, where any were, and a line end.
 fn write_partly<W: Write>(report: &mut ReportWriter<'_, W>, partly: u64) {
     if partly > 0 {
-        write!(report, " partly {partly}");
+        report.behind(" partly ", partly);
     }
     report.text("\n");
 }
@@ -101,10 +103,8 @@ fn write_told<W: Write>(
 /// Of how many messages it is not kept what they told, since their units are too many.
 fn write_left_out<W: Write>(report: &mut ReportWriter<'_, W>, left_out: u64) {
     if left_out > 0 {
-        writeln!(
-            report,
-            "ever: {left_out} messages of further units are not kept"
-        );
+        report.behind("ever: ", left_out);
+        report.text(" messages of further units are not kept\n");
     }
 }
 
@@ -112,7 +112,8 @@ fn write_left_out<W: Write>(report: &mut ReportWriter<'_, W>, left_out: u64) {
 pub(crate) fn write_bus_name<W: Write>(report: &mut ReportWriter<'_, W>, one: &BusWatch) {
     if let Some(bus) = &one.bus {
         let bus = Seen::line(bus.as_str());
-        write!(report, "{bus} ");
+        report.value(bus);
+        report.text(" ");
     }
 }
 
@@ -136,7 +137,8 @@ fn write_row<W: Write>(
 /// The unit, and the address of its NAME.
 fn write_unit<W: Write>(report: &mut ReportWriter<'_, W>, watch: &Watch, who: &Who) {
     let unit = PlainWho(*who);
-    write!(report, "{unit} ");
+    report.value(unit);
+    report.text(" ");
     if let Who::Named(_) = *who {
         write_address(report, address_of(watch, who));
     }
@@ -154,7 +156,9 @@ fn write_address<W: Write>(report: &mut ReportWriter<'_, W>, address: Option<u8>
         _ => "",
     };
     let words = address_words(address);
-    write!(report, "{before}{words} ");
+    report.text(before);
+    report.value(words);
+    report.text(" ");
 }
 
 fn write_entries<W: Write>(report: &mut ReportWriter<'_, W>, entries: u64) {
@@ -193,7 +197,7 @@ fn write_words<W: Write>(
     }
     if let Who::Named(name) = *who {
         let unit = options.units.words_of(name);
-        write!(report, "; {unit}");
+        report.behind("; ", unit);
     }
     identifications::write_in_row(report, &one.watch, who);
     report.text("\n");
@@ -208,30 +212,32 @@ fn write_counts<W: Write>(report: &mut ReportWriter<'_, W>, counts: WatchCounts)
 }
 
 fn write_lines<W: Write>(report: &mut ReportWriter<'_, W>, lines: u64, frames: u64, bad: u64) {
-    write!(report, "lines {lines} frames {frames} bad {bad}; ");
+    report.behind("lines ", lines);
+    report.behind(" frames ", frames);
+    report.behind(" bad ", bad);
+    report.text("; ");
 }
 
 /// How many lines were no frames of SAE J1939.
 fn write_foreign<W: Write>(report: &mut ReportWriter<'_, W>, counts: WatchCounts) {
     let (short, remote) = (counts.short, counts.remote);
     let (fd, error) = (counts.fd, counts.error);
-    write!(
-        report,
-        "not J1939: 11-bit {short}, remote {remote}, CAN FD {fd}, error {error}; "
-    );
+    report.behind("not J1939: 11-bit ", short);
+    report.behind(", remote ", remote);
+    report.behind(", CAN FD ", fd);
+    report.behind(", error ", error);
+    report.text("; ");
 }
 
 fn write_others<W: Write>(report: &mut ReportWriter<'_, W>, other_bus: u64, not_attributed: u64) {
-    write!(
-        report,
-        "other bus {other_bus}; not attributed {not_attributed}"
-    );
+    report.behind("other bus ", other_bus);
+    report.behind("; not attributed ", not_attributed);
 }
 
 /// How many packets were withheld, where any were, and a line end.
 fn write_withheld<W: Write>(report: &mut ReportWriter<'_, W>, withheld: u64) {
     if withheld > 0 {
-        write!(report, "; withheld {withheld}");
+        report.behind("; withheld ", withheld);
     }
     report.text("\n");
 }

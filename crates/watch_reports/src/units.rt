@@ -3,8 +3,8 @@ ghost use Rattle.bus_model.specs.Heard.{names_heard};
 ghost use Rattle.bus_watch.specs.Runs.{is_of_name, units_shown};
 ghost use Rattle.bus_watch.specs.Told.{Beginning, StandsForAll, Told, all_said, readings_said};
 ghost use Rattle.watch_reports.specs.CsvCells.{kind_cell};
-ghost use Rattle.watch_reports.specs.CsvRows.{runs_said};
-ghost use Rattle.watch_reports.specs.CsvUnits as units;
+ghost use Rattle.watch_reports.specs.ReportUnits as units;
+ghost use Rattle.watch_reports.specs.ReportUnits.{runs_said};
 
 use bus_watch::{UnitShown, Watch, Who};
 use can_frame::GLOBAL_ADDRESS;

@@ -59,7 +59,10 @@ fn write_front<W: Write>(
     let unit = WhoWords(who_of(&key.unit.sender), options.units);
     let source = SourceWords(key.source);
     let name = Seen::line(signal.name.as_str());
-    write!(report, "value {unit} at {source}: {name} ");
+    report.behind("value ", unit);
+    report.behind(" at ", source);
+    report.behind(": ", name);
+    report.text(" ");
 }
 
 /// The newest value, the least and the greatest, each with its time, and how many there were.
@@ -77,7 +80,8 @@ fn write_range<W: Write>(
     write_one(report, told, clock, signal, &range.greatest);
     let times = range.times;
     let word = if times == 1 { "value" } else { "values" };
-    write!(report, "; {times} {word}");
+    report.behind("; ", times);
+    report.behind(" ", word);
 }
 
 /// A value with its unit, and its time.
@@ -89,10 +93,10 @@ fn write_one<W: Write>(
     one: &ToldValue,
 ) {
     let value = value_of(signal, one.units);
-    write!(report, "{value}");
+    report.value(value);
     if !signal.unit.is_empty() {
         let unit = Seen::line(signal.unit.as_str());
-        write!(report, " {unit}");
+        report.behind(" ", unit);
     }
     report.text(" at ");
     write_time(report, clock, told.start, one.time);
@@ -101,9 +105,7 @@ fn write_one<W: Write>(
 /// How many values are not kept, since the signals are too many.
 fn write_left_out<W: Write>(report: &mut ReportWriter<'_, W>, left_out: u64) {
     if left_out > 0 {
-        writeln!(
-            report,
-            "value: {left_out} values of further signals are not kept"
-        );
+        report.behind("value: ", left_out);
+        report.text(" values of further signals are not kept\n");
     }
 }

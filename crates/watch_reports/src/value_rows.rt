@@ -18,16 +18,11 @@ pub(crate) const VALUE_HEADER: &str =
     ",source,signal,signal_spn,unit,newest,least,least_time,greatest,greatest_time";
 
 /// As many empty values.
-#[tactic(auto, using(crate::proofs::Writing::some_text, crate::proofs::Writing::some_both, crate::proofs::Writing::some_nothing))]
-pub(crate) fn write_no_value<W: Write>(report: &mut ReportWriter<'_, W>)
-    ensures { WroteSome W.contents report.old report.new }
-{
-    report.text(",,,,,,,,,");
-}
+pub(crate) const NO_VALUE: &str = ",,,,,,,,,";
 
 /// A row for each signal of each unit: its kind is `value`, its last time that of the newest value, and its entries are how many there
 /// were.
-#[tactic(auto, using(crate::proofs::Writing::some_text, crate::proofs::Writing::some_both, crate::proofs::Writing::some_nothing))]
+#[tactic(auto, using(crate::proofs::Writing::some_both, crate::proofs::Writing::some_nothing))]
 pub(crate) fn write_value_rows<W: Write>(
     report: &mut ReportWriter<'_, W>,
     told: &Reported<'_>,
@@ -46,7 +41,7 @@ pub(crate) fn write_value_rows<W: Write>(
     }
 }
 
-#[tactic(auto, using(crate::proofs::Writing::some_text, crate::proofs::Writing::some_both, crate::proofs::Writing::some_nothing))]
+#[tactic(auto, using(crate::proofs::Writing::some_nothing))]
 fn write_series<W: Write>(
     report: &mut ReportWriter<'_, W>,
     told: &Reported<'_>,
@@ -101,7 +96,8 @@ fn write_front<W: Write>(
     report.text(",value,");
     write_time(report, one.range.newest.time);
     let times = one.range.times;
-    write!(report, ",{times},,,,,,");
+    report.behind(",", times);
+    report.text(",,,,,,");
 }
 
 /// The values from the bus to what the unit tells of itself.
@@ -124,20 +120,21 @@ fn write_signal<W: Write>(report: &mut ReportWriter<'_, W>, key: &SeriesKey, sig
     ensures { WroteSome W.contents report.old report.new }
 {
     let source = key.source;
-    write!(report, ",{source},");
-    write_text(report, signal.name.as_str());
+    report.behind(",", source);
     report.text(",");
+    write_text(report, signal.name.as_str());
     write_spn(report, signal.spn);
     report.text(",");
     write_text(report, signal.unit.as_str());
 }
 
-#[tactic(auto, using(crate::proofs::Writing::some_text, crate::proofs::Writing::some_both, crate::proofs::Writing::some_nothing))]
+#[tactic(auto, using(crate::proofs::Writing::some_text))]
 fn write_spn<W: Write>(report: &mut ReportWriter<'_, W>, spn: Option<u32>)
     ensures { WroteSome W.contents report.old report.new }
 {
-    if let Some(spn) = spn {
-        write!(report, "{spn}");
+    match spn {
+        Some(spn) => report.behind(",", spn),
+        None => report.text(","),
     }
 }
 

@@ -1,5 +1,6 @@
 use Rattle.std.proofs.Common.{Some, rules}
-use Rattle.watch_reports.specs.CsvRows.{code_row, unit_in}
+use Rattle.watch_reports.specs.CsvRows.{code_row}
+use Rattle.watch_reports.specs.ReportUnits.{unit_in}
 use Rattle.watch_reports.proofs.CsvRows.{one_row_more}
 use Rattle.watch_reports.proofs.rows.write_each_code.Goals as goal
 

@@ -1,5 +1,6 @@
 use Rattle.std.proofs.Common.{Some, map, take}
-use Rattle.watch_reports.specs.CsvRows.{WroteRows, code_row, unit_in}
+use Rattle.watch_reports.specs.CsvRows.{WroteRows, code_row}
+use Rattle.watch_reports.specs.ReportUnits.{unit_in}
 use Rattle.watch_reports.proofs.rows.write_each_code.Given as goal
 
 abbrev pub invariant-loop-code : goal.invariant-loop-code

@@ -1,6 +1,7 @@
 use Rattle.std.proofs.Common.{take}
 use Rattle.std.specs.List.{flat_map}
-use Rattle.watch_reports.specs.CsvRows.{WroteRows, run_rows, unit_in}
+use Rattle.watch_reports.specs.CsvRows.{WroteRows, run_rows}
+use Rattle.watch_reports.specs.ReportUnits.{unit_in}
 use Rattle.watch_reports.proofs.rows.write_each_run.Given as goal
 
 abbrev pub invariant-loop-run : goal.invariant-loop-run

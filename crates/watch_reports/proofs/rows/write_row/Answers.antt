@@ -1,7 +1,7 @@
 use Rattle.std.proofs.Common.{[], ◌∷◌, ◌++◌}
 use Rattle.std.specs.Prelude.{option_map}
 use Rattle.watch_reports.specs.CsvCells.{code_cells, doubt_cells, number_cell, run_cells}
-use Rattle.watch_reports.specs.CsvRows.{unit_in}
+use Rattle.watch_reports.specs.ReportUnits.{unit_in}
 use Rattle.watch_reports.proofs.CsvRows.{row_written}
 use Rattle.watch_reports.proofs.rows.write_row.Goals as goal
 

@@ -1,4 +1,5 @@
-use Rattle.watch_reports.specs.CsvRows.{bare_row, unit_in}
+use Rattle.watch_reports.specs.CsvRows.{bare_row}
+use Rattle.watch_reports.specs.ReportUnits.{unit_in}
 use Rattle.watch_reports.proofs.CsvRows.{row_written}
 use Rattle.watch_reports.proofs.rows.write_without_kind.Goals as goal
 

@@ -1,6 +1,0 @@
-use Rattle.std.proofs.Common.{rules}
-use Rattle.watch_reports.proofs.Writing.{some_both, some_text}
-use Rattle.watch_reports.proofs.cells.write_unquoted.Goals as goal
-
-pub returns : goal.returns
-returns g c = search (rules, some_both, some_text)

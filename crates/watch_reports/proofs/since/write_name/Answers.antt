@@ -1,0 +1,6 @@
+use Rattle.std.proofs.Common.{rules}
+use Rattle.watch_reports.proofs.Writing.{some_both, some_text}
+use Rattle.watch_reports.proofs.since.write_name.Goals as goal
+
+pub returns : goal.returns
+returns g c = search (rules, some_both, some_text)

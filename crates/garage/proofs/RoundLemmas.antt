@@ -17,7 +17,9 @@ use Rattle.journal.specs.Journal.{Adds, GarageValue, state_after, state_of}
 use Rattle.journal.specs.Steps.{after}
 use Rattle.journal.specs.declared.event.Event.TheVariants.{Carry}
 use Rattle.garage.specs.Carrying.{AddsCarry}
-use Rattle.garage.specs.Crew.{AreSeated, Comes, Sits, Sitting}
+use Rattle.fault_memory.specs.Memory.{IsLawfulMemory, MemoryValue}
+use Rattle.journal.specs.Notes.{memory_told}
+use Rattle.garage.specs.Crew.{AreSeated, AreTold, Comes, Sits, Sitting}
 use Rattle.garage.specs.Hearing.{HasHeardAll, HearsMany, IsHearingCut, IsLast, IsNoMemoryOrFullAt}
 use Rattle.garage.specs.Rounds.{AreRounds, HaveReadAll, HaveRounds, HearInTurn, HearsAt, IsCarryCut, IsListeningCut, IsReadingCut, IsRoundCut, Listens, EachReads}
 use Rattle.garage.specs.Calls.{IsNoMemoryOrFull}
@@ -95,6 +97,41 @@ pub turned : {P : Type 0} (sitting : P → Sitting) (asked : P → P → Option 
 unfolding HearInTurn
 turned sitting asked zero a b us vs seated h = turned_same sitting 0 a a b us us vs (turned_none sitting a us seated) h.0 h.1
 turned sitting asked (suc n) a b us vs seated h = turned_then sitting asked n a h.0 b us h.1 vs (turned sitting asked n a h.0 us h.1 seated h.2) h.3
+
+-- ---- what was told of their memories
+
+-- what stands where it was put
+pub put_there : {P : Type 0} (us : List P) (i : ℕ) (p q : P) → slice_get (set us i p) i ≡ Some q → q ≡ p
+put_there us i p q e = elim (slice_get_set us i i p q e) [ inl same ↦ same.1 | inr other ↦ absurd (other.0 refl) ]
+
+-- a unit of which it is told anew, or which keeps its memory
+pub told_put : {P : Type 0} (sitting : P → Sitting) (told told' : List (ℕ × MemoryValue)) (us : List P) (i : ℕ) (p : P) → AreTold sitting told us
+    → memory_told told' i ≡ (sitting p).memory → IsLawfulMemory (memory_told told' i) → ((j : ℕ) → j ≢ i → memory_told told' j ≡ memory_told told j) → AreTold sitting told' (set us i p)
+told_put {P} sitting told told' us i p all is lawful others = λ j q e.
+    elim (slice_get_set us i j p q e) [
+      | inl same ↦
+          (subst (λ (k : ℕ). memory_told told' k ≡ (sitting q).memory) (sym same.0) (is ∙ sym (ap (λ (x : P). (sitting x).memory) same.1)), subst (λ (k : ℕ). IsLawfulMemory (memory_told told' k)) (sym same.0) lawful)
+      | inr other ↦
+          let was = all j q other.1 in
+          let kept = others j other.0 in
+          (kept ∙ was.0, subst IsLawfulMemory (sym kept) was.1)
+    ]
+
+-- one more of which it is told
+pub told_more : {P : Type 0} (sitting : P → Sitting) (told told' : List (ℕ × MemoryValue)) (us : List P) (i : ℕ) (p : P) → ((j : ℕ) (q : P) → j < i → slice_get us j ≡ Some q → (memory_told told j ≡ (sitting q).memory) × IsLawfulMemory (memory_told told j))
+    → slice_get us i ≡ Some p → memory_told told' i ≡ (sitting p).memory → IsLawfulMemory (memory_told told' i) → ((j : ℕ) → j ≢ i → memory_told told' j ≡ memory_told told j)
+    → (j : ℕ) (q : P) → j < i + 1 → slice_get us j ≡ Some q → (memory_told told' j ≡ (sitting q).memory) × IsLawfulMemory (memory_told told' j)
+told_more {P} sitting told told' us i p all at is lawful others j q l e =
+    elim (same_or_not j i) [
+      | inl same ↦
+          let at_j : slice_get us j ≡ Some p = ap (slice_get us) same ∙ at in
+          let one : p ≡ q = (let x = sym at_j ∙ e in cc) in
+          (subst (λ (k : ℕ). memory_told told' k ≡ (sitting q).memory) (sym same) (is ∙ ap (λ (x : P). (sitting x).memory) one), subst (λ (k : ℕ). IsLawfulMemory (memory_told told' k)) (sym same) lawful)
+      | inr other ↦
+          let was = all j q (omega arith) e in
+          let kept = others j other in
+          (kept ∙ was.0, subst IsLawfulMemory (sym kept) was.1)
+    ]
 
 -- a unit that stays leaves all as they are
 pub set_itself : {P : Type 0} (us : List P) (i : ℕ) (p : P) → slice_get us i ≡ Some p → set us i p ≡ us

@@ -1,8 +1,9 @@
 -- Many units in their seats, in turn.
 use Rattle.std.specs.Prelude.{◌≡◌, ◌≢◌, ℕ, suc, ◌<◌, List, [], ◌∷◌, Some, length, slice_get}
 use Rattle.bus_ledger.specs.BusValue.{Traffic, seat_at}
-use Rattle.fault_memory.specs.Memory.{MemoryValue}
+use Rattle.fault_memory.specs.Memory.{IsLawfulMemory, MemoryValue}
 use Rattle.journal.specs.Journal.{GarageValue, Adds, IsSeated, state_of, tally_of}
+use Rattle.journal.specs.Notes.{memory_told}
 use Rattle.journal.specs.declared.event.Event.{Event}
 use Rattle.journal.specs.declared.event.Event.TheVariants.{Join, Hear, Begin, Turned, Carry, Read, Ordered, Leave, Inject}
 
@@ -20,6 +21,10 @@ Sits g s = IsSeated g s.seat s.name s.events
 pub record AreSeated {P : Type 0} (sitting : P → Sitting) (g : GarageValue) (units : List P) : Type 0 where
   pub each : (i : ℕ) (p : P) → slice_get units i ≡ Some p → Sits g (sitting p)
   pub ordered : (i : ℕ) (p q : P) → slice_get units i ≡ Some p → slice_get units (suc i) ≡ Some q → (sitting p).seat < (sitting q).seat
+
+-- what was told of their memories is what these hold
+abbrev pub AreTold : {P : Type 0} → (P → Sitting) → List (ℕ × MemoryValue) → List P → Type 0
+AreTold {P} sitting told units = (i : ℕ) (p : P) → slice_get units i ≡ Some p → (memory_told told i ≡ (sitting p).memory) × IsLawfulMemory (memory_told told i)
 
 -- a seat is as live as it was, under the same NAME, among as many seats and the same stations
 pub record KeepsSeat (k : ℕ) (t t' : Traffic) : Type 0 where

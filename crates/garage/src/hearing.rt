@@ -1,6 +1,5 @@
 ghost use Rattle.std.specs.Prelude.{◌≡◌, ◌+◌, ◌-◌, ◌<◌, ◌≤◌, ◌^◌, ◌↔◌, ◌⊎◌, ◌∷◌, ℕ, length, IfOk, IfErr, IfSome, IsErrOf, IsFalse, IsTrue, OnErr, OnOk, Some};
 ghost use Rattle.can_frame.specs.FrameValue.{FrameValue};
-ghost use Rattle.fault_memory.specs.Memory.{IsLawfulMemory};
 ghost use Rattle.bus_ledger.specs.BusValue.{IsUnit, seat_at};
 ghost use Rattle.bus_ledger.specs.Changes.{heard_more};
 ghost use Rattle.node_core.specs.Passing.{IsAcceptance};
@@ -147,7 +146,8 @@ impl Garage {
         if !place.node.absorb(acceptance) {
             return false;
         }
-        pass_over(place, &mut self.bus, &mut self.journal, seat, memory);
+        let memory = MemoryThen::of(memory);
+        pass_over(place, &mut self.bus, &mut self.journal, seat, &memory);
         true
     }
 
@@ -353,7 +353,7 @@ pub(crate) fn pass_over(
     bus: &mut Bus,
     journal: &mut Journal,
     seat: u32,
-    memory: &FaultMemory,
+    memory: &MemoryThen,
 )
     requires unit { IsUnit bus.old.traffic seat }
     requires next { (seat_at bus.old.traffic seat).heard < length bus.old.traffic.wire }
@@ -362,9 +362,8 @@ pub(crate) fn pass_over(
     ensures place { place.new ≡ record place.old { tally = one_more place.old.tally } }
     ensures traffic { bus.new.traffic ≡ heard_more seat 1 bus.old.traffic }
     ensures noted { journal.new ≡ Hear seat memory.now Answer.NotAsked ∷ journal.old }
-    ensures lawful { IsLawfulMemory memory.now }
 {
     place.tally.events += 1;
     bus.mark_heard(seat);
-    journal.note_hear(seat, &MemoryThen::of(memory), Answer::NotAsked);
+    journal.note_hear(seat, memory, Answer::NotAsked);
 }

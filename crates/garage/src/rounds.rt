@@ -4,7 +4,7 @@ ghost use Rattle.bus_ledger.specs.Reception.{next_reading};
 ghost use Rattle.journal.specs.Journal.{state_of};
 ghost use Rattle.journal.specs.Promises.{KeepsLists};
 ghost use Rattle.garage.specs.Calls.{IsNoMemoryOrFull};
-ghost use Rattle.garage.specs.Crew.{AreSeated, AreUntouched, Comes};
+ghost use Rattle.garage.specs.Crew.{AreSeated, AreTold, AreUntouched, Comes};
 ghost use Rattle.garage.specs.ParkedUnits.{asked_of, sitting_of};
 ghost use Rattle.garage.specs.Hearing.{HasHeardAll, IsLast, IsNoMemoryOrFullAt};
 ghost use Rattle.garage.specs.Rounds.{EndsSo, HasReadAll, HaveReadAll, HaveRounds, HearOnward, IsListeningCut, IsReadingCut, IsRoundCut, IsUnread, Listens, EachReads, TakesReadings};
@@ -17,6 +17,7 @@ use crate::plug::Parked;
 use crate::room::has_room;
 use bus_ledger::Carried;
 use can_frame::{Frame, Reading};
+use journal::Memories;
 use node_core::Acceptance;
 use std::alloc::Global;
 use unit_trait::Unit;
@@ -104,24 +105,32 @@ impl Garage {
             most e self.old units.old self.new units.new) }
         ensures comes { Comes self.old self.new }
     {
+        let mut memories = memories_of(&*units);
         for carried in 0..most {
-            self.listen(alloc, &mut *units)?;
+            self.listen(alloc, &mut *units, &mut memories)?;
             match self.carry()? {
                 Carried::Frame { seat: _, frame: _ } => {}
                 Carried::Idle => return Ok(ended(carried, Carried::Idle)),
                 Carried::Waiting => return Ok(ended(carried, Carried::Waiting)),
             }
         }
-        self.listen(alloc, units)?;
+        self.listen(alloc, units, &mut memories)?;
         Ok(Rounds {
             carried: most,
             end: None,
         })
     }
 
-    /// Each unit in turn hears all that it has not heard, and the stations read all.
-    fn listen(&mut self, alloc: Global, units: &mut [Parked]) -> Result<(), GarageError>
-        requires { AreSeated (sitting_of (λ b. name_of b) (λ b. memory_of b)) self.old units.old }
+    /// Each unit in turn hears all that it has not heard, and the stations read all. These are the units' memories.
+    fn listen(
+        &mut self,
+        alloc: Global,
+        units: &mut [Parked],
+        memories: &mut Memories,
+    ) -> Result<(), GarageError>
+        requires seated { AreSeated (sitting_of (λ b. name_of b) (λ b. memory_of b)) self.old units.old }
+        requires told { AreTold (sitting_of (λ b. name_of b) (λ b. memory_of b)) memories.old units.old }
+        ensures told { OnOk result (AreTold (sitting_of (λ b. name_of b) (λ b. memory_of b)) memories.new units.new) }
         ensures seated { AreSeated (sitting_of (λ b. name_of b) (λ b. memory_of b)) self.new units.new }
         ensures heard { OnOk result (Listens (sitting_of (λ b. name_of b) (λ b. memory_of b)) (asked_of (λ b. Answers b)) self.old
             units.old self.new units.new) }
@@ -134,9 +143,10 @@ impl Garage {
         };
         let mut next = 0;
         while next < units.len() {
-            next = self.pass_in_turn(&mut *units, next, &last);
+            next = self.pass_in_turn(&mut *units, next, &last, &*memories);
             if next < units.len() {
                 self.catch_up(alloc, &mut units[next])?;
+                memories.tell(next, units[next].memory());
                 next += 1;
             }
         }
@@ -181,10 +191,13 @@ impl Garage {
         units: &mut [Parked],
         first: usize,
         last: &LastFrame,
+        memories: &Memories,
     ) -> usize
         requires seated { AreSeated (sitting_of (λ b. name_of b) (λ b. memory_of b)) self.old units.old }
         requires last { IsLast last.now.frame last.now.acceptance self.old }
         requires first { first ≤ length units.old }
+        requires told { AreTold (sitting_of (λ b. name_of b) (λ b. memory_of b)) memories.now units.old }
+        ensures told { AreTold (sitting_of (λ b. name_of b) (λ b. memory_of b)) memories.now units.new }
         ensures seated { AreSeated (sitting_of (λ b. name_of b) (λ b. memory_of b)) self.new units.new }
         ensures last { IsLast last.now.frame last.now.acceptance self.new }
         ensures heard { HearOnward (sitting_of (λ b. name_of b) (λ b. memory_of b)) (asked_of (λ b. Answers b)) first result
@@ -215,7 +228,7 @@ impl Garage {
                 &mut self.bus,
                 &mut self.journal,
                 seat,
-                units[i].memory(),
+                &memories.at(i),
             );
             units[i].events = place.tally.events;
         }
@@ -249,6 +262,17 @@ impl Garage {
             }
         }
     }
+}
+
+/// What their memories hold, by their places.
+fn memories_of(units: &[Parked]) -> Memories
+    ensures { AreTold (sitting_of (λ b. name_of b) (λ b. memory_of b)) result units.now }
+{
+    let mut memories = Memories::new();
+    for i in 0..units.len() {
+        memories.tell(i, units[i].memory());
+    }
+    memories
 }
 
 /// So many were carried, and no more for this.

@@ -28,3 +28,4 @@ pub mod Living
 pub mod Fitting
 pub mod Examples
 pub mod Overhearing
+pub mod Telling

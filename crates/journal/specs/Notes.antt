@@ -1,5 +1,5 @@
 -- What the notes of a journal tell.
-use Rattle.std.specs.Prelude.{List, [], ◌∷◌, map, reverse}
+use Rattle.std.specs.Prelude.{ℕ, List, [], ◌∷◌, ◌==◌, map, reverse}
 use Rattle.fault_memory.specs.Memory.{MemoryValue, new_memory}
 use Rattle.journal.specs.declared.event.Event.{Event}
 use Rattle.journal.specs.declared.event.Event.TheVariants.{Join, Hear, Begin, Turned, Carry, Read, Ordered, Leave, Inject}
@@ -25,7 +25,16 @@ event_noted n = event_of n.0 n.1
 abbrev pub events_of : List (Note × MemoryValue) → List Event
 events_of notes = reverse (map event_noted notes)
 
--- the memory that stands first here; where none does, that of a new unit
-abbrev pub memory_held : List (Unit {0} × MemoryValue) → MemoryValue
+-- what was told last of a place, and this before
+abbrev pub told_after : MemoryValue → List (ℕ × MemoryValue) → ℕ → MemoryValue
+told_after m [] i = m
+told_after m (t ∷ ts) i = told_after (if t.0 == i then t.1 else m) ts i
+
+-- the same; where nothing was told, the memory of a new unit
+abbrev pub memory_told : List (ℕ × MemoryValue) → ℕ → MemoryValue
+memory_told told i = told_after new_memory told i
+
+-- the memory at the place that stands first here, among those that stand beside it; where none does, that of a new unit
+abbrev pub memory_held : List (ℕ × List (ℕ × MemoryValue)) → MemoryValue
 memory_held [] = new_memory
-memory_held (m ∷ ms) = m.1
+memory_held (m ∷ ms) = memory_told m.1 m.0

@@ -24,7 +24,7 @@ pub use listener::{
     a_listener_beside_it_is_exact, clear_path_beside_it_looks_back,
     what_is_listed_beside_it_was_sent,
 };
-pub use memory_then::MemoryThen;
+pub use memory_then::{Memories, MemoryThen};
 pub use notes::{Journal, MOST_EVENTS};
 pub use order::Order;
 pub use promises::{

@@ -1,6 +1,6 @@
 use Rattle.std.proofs.Common.{◌≡◌, ◌-◌, ◌≤◌, length}
 use Rattle.node_core.specs.Asking.{IsAsked}
-use Rattle.garage.specs.Crew.{AreSeated}
+use Rattle.garage.specs.Crew.{AreSeated, AreTold}
 use Rattle.garage.specs.Hearing.{IsLast}
 use Rattle.garage.specs.Rounds.{HearInTurn}
 use Rattle.garage.proofs.garage.Garage.listen.Given as goal
@@ -12,6 +12,7 @@ invariant-loop-next g l =
     × AreSeated (λ p. record { seat = p.seat; name = (goal.Unit-dyn g (p.unit.vtable, p.unit.value)).name_of p.unit.value; events = p.events; memory = (goal.Unit-dyn g (p.unit.vtable, p.unit.value)).memory_of p.unit.value }) l.self l.units
     × IsLast l.last.frame l.last.acceptance l.self
     × l.next ≤ length l.units
+    × AreTold (λ p. record { seat = p.seat; name = (goal.Unit-dyn g (p.unit.vtable, p.unit.value)).name_of p.unit.value; events = p.events; memory = (goal.Unit-dyn g (p.unit.vtable, p.unit.value)).memory_of p.unit.value }) l.memories l.units
 
 abbrev pub decreases-loop-next : goal.decreases-loop-next
 decreases-loop-next g l = length l.units - l.next

@@ -8,13 +8,14 @@ use Rattle.node_core.specs.declared.heard.Answer.TheVariants.{NotAsked}
 use Rattle.fault_memory.specs.Memory.{IsLawfulMemory, MemoryValue}
 use Rattle.journal.specs.declared.event.Event.TheVariants.{Hear}
 use Rattle.journal.specs.Journal.{GarageValue, one_more}
-use Rattle.garage.specs.Crew.{AreSeated}
+use Rattle.garage.specs.Crew.{AreSeated, AreTold}
 use Rattle.garage.specs.Hearing.{IsLast}
 use Rattle.garage.specs.Inside.{garage_value_of}
 use Rattle.garage.specs.Rounds.{HearOnward}
 use Rattle.garage.specs.declared.garage.Garage.TheInside.{Inside}
 use Rattle.garage.specs.declared.garage.Place.{Place}
 use Rattle.garage.proofs.InTurn.{InTurn, stands_written, turn_passed, turn_still}
+use Rattle.garage.proofs.RoundLemmas.{told_put}
 use Rattle.garage.proofs.Standing.{seat_low, bus_unit, place_few, place_within}
 use Rattle.garage.proofs.garage.Garage.pass_in_turn.Goals as goal
 
@@ -35,6 +36,7 @@ loop-i-init g c =
         within = omega arith;
       },
       refl,
+      c.requires.told,
     )
 
 pub unheard-behind-requires : goal.unheard-behind-requires
@@ -45,6 +47,7 @@ loop-i-preserved-then-behind-eq0 g c = (
   turn_still (λ p. record { seat = p.seat; name = (goal.Unit-dyn g (p.unit.vtable, p.unit.value)).name_of p.unit.value; events = p.events; memory = (goal.Unit-dyn g (p.unit.vtable, p.unit.value)).memory_of p.unit.value }) (λ p q o a. (u : _) × (q.unit ≡ record p.unit { value = u }) × IsAsked ((goal.Unit-dyn g (p.unit.vtable, p.unit.value)).Answers p.unit.value) o a p.unit.value u) c.args.first c.args.self.now c.args.units.now c.args.last.now.frame c.args.last.now.acceptance c.loop-i.self-inside c.loop-i.units c.loop-i.i _ (length c.loop-i.units - c.loop-i.i) _ (get_or c.loop-i.units c.loop-i.i c.index-units-i.result)
       c.loop-i.invariant.0 refl (omega arith) (slice_get-get_or c.loop-i.units c.loop-i.i c.index-units-i.result (let e = c.loop-i.auto.units in let t = c.loop-i-test.true in omega arith)) (let k = c.unheard-behind.ensures.count in let e = c.if-behind-eq0.true in omega arith),
   c.loop-i.invariant.1,
+  c.loop-i.invariant.2,
 )
 
 pub overflow_sub-seat : goal.overflow_sub-seat
@@ -83,10 +86,9 @@ loop-i-preserved g c =
     let inside : i < n = (let e = c.loop-i.auto.units in let t = c.loop-i-test.true in omega arith) in
     let there = slice_get-get_or c.loop-i.units i c.index-units-i.result inside in
     let so = c.loop-i.invariant.0 in
-    let told = slice_get-get_or c.loop-i.units i c.index-units-i-in-loop-i.result inside in
-    let teller : get_or c.loop-i.units i c.index-units-i-in-loop-i.result ≡ p = (let e = sym told ∙ there in cc) in
-    let memory_is = c.memory.ensures ∙ ap (λ q. (goal.Unit-dyn g (q.unit.vtable, q.unit.value)).memory_of q.unit.value) teller in
-    let lawful = subst IsLawfulMemory memory_is c.pass_over.ensures.lawful in
+    let told = c.loop-i.invariant.2 i p there in
+    let memory_is = c.at.ensures ∙ told.0 in
+    let lawful = subst IsLawfulMemory told.0 told.1 in
     let noted = c.pass_over.ensures.noted ∙ ap (λ (m : MemoryValue). Hear p.seat m NotAsked ∷ a.journal) memory_is in
     let x = c.index_mut-place.result.now in
     let did = c.pass_over.ensures.place in
@@ -103,8 +105,8 @@ loop-i-preserved g c =
       injected = a.injected;
       journal = c.pass_over.new.journal;
     } in
-    let there' = slice_get-get_or c.loop-i.units i c.index-units-i-in-loop-i-2.result inside in
-    let again : p ≡ get_or c.loop-i.units i c.index-units-i-in-loop-i-2.result = (let e = sym there ∙ there' in cc) in (
+    let there' = slice_get-get_or c.loop-i.units i c.index-units-i-in-loop-i.result inside in
+    let again : p ≡ get_or c.loop-i.units i c.index-units-i-in-loop-i.result = (let e = sym there ∙ there' in cc) in (
       subst (λ y. InTurn (λ p. record { seat = p.seat; name = (goal.Unit-dyn g (p.unit.vtable, p.unit.value)).name_of p.unit.value; events = p.events; memory = (goal.Unit-dyn g (p.unit.vtable, p.unit.value)).memory_of p.unit.value }) (λ p q o a. (u : _) × (q.unit ≡ record p.unit { value = u }) × IsAsked ((goal.Unit-dyn g (p.unit.vtable, p.unit.value)).Answers p.unit.value) o a p.unit.value u) c.args.first c.args.self.now c.args.units.now c.args.last.now.frame c.args.last.now.acceptance b (set c.loop-i.units i (record y { events = c.pass_over.new.place.tally.events })) (i + 1) (length (set c.loop-i.units i (record y { events = c.pass_over.new.place.tally.events })) - (i + 1))) again
           (turn_passed (λ p. record { seat = p.seat; name = (goal.Unit-dyn g (p.unit.vtable, p.unit.value)).name_of p.unit.value; events = p.events; memory = (goal.Unit-dyn g (p.unit.vtable, p.unit.value)).memory_of p.unit.value }) (λ p q o a. (u : _) × (q.unit ≡ record p.unit { value = u }) × IsAsked ((goal.Unit-dyn g (p.unit.vtable, p.unit.value)).Answers p.unit.value) o a p.unit.value u) c.args.first c.args.self.now c.args.units.now c.args.last.now.frame c.args.last.now.acceptance a b c.loop-i.units i (i + 1) (n - i) (length (set c.loop-i.units i p') - (i + 1)) c.pass_over.new.place.tally.events p p' x c.absorb.new.self so refl (omega arith) there lawful
           (let k = c.unheard-behind.ensures.count in let w = c.unheard-behind.ensures.within in let e = c.if-behind-ne1.false in omega arith)
@@ -112,6 +114,8 @@ loop-i-preserved g c =
           (record { posts = refl; stations = refl })
           (ap (λ (y : Place). set a.places.items (p.seat - c.self.inside.stations) y) did ∙ ap (λ (n : ℕ). set a.places.items (p.seat - n) (record x { node = c.absorb.new.self; tally = one_more x.tally })) c.loop-i.invariant.1) refl refl refl),
       c.loop-i.invariant.1,
+      subst (λ y. AreTold (λ p. record { seat = p.seat; name = (goal.Unit-dyn g (p.unit.vtable, p.unit.value)).name_of p.unit.value; events = p.events; memory = (goal.Unit-dyn g (p.unit.vtable, p.unit.value)).memory_of p.unit.value }) c.args.memories.now (set c.loop-i.units i (record y { events = c.pass_over.new.place.tally.events }))) again
+          (told_put (λ p. record { seat = p.seat; name = (goal.Unit-dyn g (p.unit.vtable, p.unit.value)).name_of p.unit.value; events = p.events; memory = (goal.Unit-dyn g (p.unit.vtable, p.unit.value)).memory_of p.unit.value }) c.args.memories.now c.args.memories.now c.loop-i.units i p' c.loop-i.invariant.2 told.0 told.1 (λ j n. refl)),
     )
 
 pub returns-clause-heard : goal.returns-clause-heard

@@ -1,5 +1,8 @@
-use Rattle.std.proofs.Common.{◌-◌, ap, arith, refl, set}
+use Rattle.std.proofs.Common.{◌-◌, ◌∷◌, ap, arith, refl, set, ◌∙◌}
 use Rattle.std.specs.Vec.{with_item}
+use Rattle.fault_memory.specs.Memory.{MemoryValue}
+use Rattle.node_core.specs.declared.heard.Answer.TheVariants.{NotAsked}
+use Rattle.journal.specs.declared.event.Event.TheVariants.{Hear}
 use Rattle.garage.specs.declared.garage.Place.{Place}
 use Rattle.garage.proofs.Passing.{next_inside, next_there, quiet_passes, quiet_stands}
 use Rattle.garage.proofs.Standing.{place_few, place_within, unit_now}
@@ -22,9 +25,9 @@ invariant_of-self-2 c =
     let a = c.self.inside in
     let seat = c.args.seat in
     let fits = c.has_room.ensures.0 c.if-not-has_room.false in
-    quiet_stands a _ seat _ c.requires.next.0 c.index_mut-place.result.now c.absorb.new.self c.self.invariant (unit_now a c.args.self.now seat c.self.view_is c.requires.unit) c.pass_over.ensures.lawful
+    quiet_stands a _ seat _ c.requires.next.0 c.index_mut-place.result.now c.absorb.new.self c.self.invariant (unit_now a c.args.self.now seat c.self.view_is c.requires.unit) c.of-memory.ensures.lawful
     (next_inside a c.args.self.now seat c.requires.next.0 c.self.view_is c.requires.next.1) c.index_mut-place.ensures.value (c.requires.next.2.heard c.index_mut-place.result.now.node c.absorb.new.self (c.absorb.ensures.absorbed c.if-not-absorb.false))
-    refl c.pass_over.ensures.noted c.pass_over.ensures.traffic (record { posts = refl; stations = refl }) (ap (λ (y : Place). set a.places.items (seat - a.stations) y) c.pass_over.ensures.place) refl refl refl (omega arith)
+    refl (c.pass_over.ensures.noted ∙ ap (λ (m : MemoryValue). Hear seat m NotAsked ∷ a.journal) c.of-memory.ensures.value) c.pass_over.ensures.traffic (record { posts = refl; stations = refl }) (ap (λ (y : Place). set a.places.items (seat - a.stations) y) c.pass_over.ensures.place) refl refl refl (omega arith)
 
 pub returns-clause-passed : goal.returns-clause-passed
 returns-clause-passed c = λ t.
@@ -45,6 +48,6 @@ returns-clause-passed c = λ t.
         journal = c.pass_over.new.journal;
       })
           c.args.self.now seat _ _ c.requires.next.0 x c.absorb.new.self c.self.view_is c.self.invariant refl
-          c.pass_over.ensures.noted refl (unit_now a c.args.self.now seat c.self.view_is c.requires.unit) c.pass_over.ensures.lawful
+          (c.pass_over.ensures.noted ∙ ap (λ (m : MemoryValue). Hear seat m NotAsked ∷ a.journal) c.of-memory.ensures.value) refl (unit_now a c.args.self.now seat c.self.view_is c.requires.unit) c.of-memory.ensures.lawful
           (next_inside a c.args.self.now seat c.requires.next.0 c.self.view_is c.requires.next.1) c.index_mut-place.ensures.value (c.requires.next.2.heard x.node c.absorb.new.self (c.absorb.ensures.absorbed c.if-not-absorb.false)),
     ))

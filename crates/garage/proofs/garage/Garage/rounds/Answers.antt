@@ -6,7 +6,7 @@ use Rattle.garage.specs.Carrying.{AddsCarry}
 use Rattle.garage.proofs.garage.Garage.rounds.Goals as goal
 
 pub loop-carried-init : goal.loop-carried-init
-loop-carried-init g c = (rounds_none _ _ c.args.self.now c.args.units.now, c.requires, comes_same c.args.self.now c.args.self.now refl)
+loop-carried-init g c = (rounds_none _ _ c.args.self.now c.args.units.now, c.requires, comes_same c.args.self.now c.args.self.now refl, c.memories_of-memories.ensures)
 
 pub returns-in_err-listen-clause-comes : goal.returns-in_err-listen-clause-comes
 returns-in_err-listen-clause-comes g c = comes_both c.args.self.now c.loop-carried.self c.listen.new.self c.loop-carried.invariant.2 c.listen.ensures.comes
@@ -63,6 +63,7 @@ loop-carried-preserved g c =
       crew_still _ c.listen.new.self c.carry.new.self c.listen.new.units (λ k l. carried_untouched k c.listen.new.self c.carry.new.self c.in_ok-carry.field-0 c.in_ok-carry.ensures.ok l) c.listen.ensures.seated,
       comes_both c.args.self.now c.listen.new.self c.carry.new.self (comes_both c.args.self.now c.loop-carried.self c.listen.new.self c.loop-carried.invariant.2 c.listen.ensures.comes)
           (comes_carried c.listen.new.self c.carry.new.self c.in_ok-carry.field-0 c.in_ok-carry.ensures.ok),
+      c.in_ok-listen.ensures.told,
     )
 
 pub returns-in_err-listen-2-clause-comes : goal.returns-in_err-listen-2-clause-comes

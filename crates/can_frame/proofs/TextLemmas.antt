@@ -1,6 +1,6 @@
 use Rattle.std.proofs.Common.{◌≡◌, ℕ, ◌-◌, ◌^◌, ◌<◌, true, false, List, [], ◌∷◌, ap, arith, lit<, lit≤}
 use Rattle.std.specs.Fmt.{padded_integral, format_spec, digits}
-use Rattle.hex_text.specs.Printed.{padded_hex}
+use Rattle.can_frame.specs.Printed.{padded_hex}
 use Rattle.can_frame.specs.FrameText.{id_text, byte_text}
 
 -- what `{:08X}` writes of an identifier

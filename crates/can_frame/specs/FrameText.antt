@@ -1,6 +1,6 @@
 use Rattle.std.specs.Prelude.{ℕ, List, [], ◌∷◌, ◌++◌}
 use Rattle.std.specs.List.{flat_map}
-use Rattle.hex_text.specs.Hex.{hex_digits}
+use Rattle.can_frame.specs.Hex.{hex_digits}
 use Rattle.can_frame.specs.FrameValue.{FrameValue}
 
 -- the eight upper-case digits of an identifier

@@ -1,6 +1,10 @@
+pub mod Digits
 pub mod Fields
 pub mod FrameText
 pub mod FrameValue
+pub mod Hex
 pub mod Padding
 pub mod Places
+pub mod Printed
+pub mod ReadBack
 pub mod Refusals

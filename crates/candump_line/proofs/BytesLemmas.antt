@@ -11,8 +11,8 @@ use Rattle.std.proofs.lemmas.List.Elements.{All-head, All-tail, All-nil, All-con
 use Rattle.std.proofs.lemmas.Str.Ascii.{IsAscii-nil, IsAscii-cons}
 use Rattle.std.proofs.lemmas.Str.Pattern.{IsSplitOnceResult, split_after, split_parts}
 use Rattle.can_frame.specs.FrameText.{id_text}
-use Rattle.hex_text.specs.Hex.{hex_digits}
-use Rattle.hex_text.specs.ReadBack.{IsHexText-hex_digits}
+use Rattle.can_frame.specs.Hex.{hex_digits}
+use Rattle.can_frame.specs.ReadBack.{IsHexText-hex_digits}
 use Rattle.candump_line.specs.Forms.{SpellsData}
 use Rattle.candump_line.specs.LineText.{byte_digits}
 use Rattle.candump_line.specs.Words.{front_word}

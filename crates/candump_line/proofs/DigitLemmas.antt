@@ -12,8 +12,8 @@ use Rattle.std.proofs.Math.Nat.{pow-le-pow_right}
 use Rattle.std.proofs.lemmas.List.{length-append, length-drop, length-take-le, get_or-take, get_or_append_left, get_or-append_right, get_or_at, take_at, drop_at, take_all, take_rest, take_more, take_more_set}
 use Rattle.std.proofs.lemmas.List.Elements.{All-get_or}
 use Rattle.std.proofs.lemmas.Str.Parse.{digit_at}
-use Rattle.hex_text.specs.Hex.{hex_digit}
-use Rattle.hex_text.specs.Printed.{hex_glyphs}
+use Rattle.can_frame.specs.Hex.{hex_digit}
+use Rattle.can_frame.specs.Printed.{hex_glyphs}
 use Rattle.candump_line.specs.LineText.{byte_digits, BeginsWithElevenDigits, BeginsWithNoDigit}
 
 -- the value of a digit

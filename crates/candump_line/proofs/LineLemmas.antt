@@ -17,9 +17,9 @@ use Rattle.std.proofs.lemmas.List.Elements.{All-cons, All-nil, All-append, All-h
 use Rattle.std.proofs.lemmas.Str.Parse.{digit_at}
 use Rattle.can_frame.specs.FrameText.{id_text}
 use Rattle.can_frame.specs.FrameValue.{FrameValue, frame}
-use Rattle.hex_text.specs.Hex.{hex_digits}
-use Rattle.hex_text.specs.Printed.{padded_hex}
-use Rattle.hex_text.specs.ReadBack.{IsHexText-hex_digits}
+use Rattle.can_frame.specs.Hex.{hex_digits}
+use Rattle.can_frame.specs.Printed.{padded_hex}
+use Rattle.can_frame.specs.ReadBack.{IsHexText-hex_digits}
 use Rattle.candump_line.specs.LineText.{byte_digits, decimal_digits, line_text, ticks_text, timed_line, IsBusName, IsDataFrame}
 use Rattle.candump_line.proofs.TimeLemmas.{HasParts, IsNumeral-digits, length-digits, ticks_of_micros}
 

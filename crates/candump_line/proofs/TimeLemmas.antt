@@ -6,7 +6,7 @@ use Rattle.std.specs.Char.{digit_value}
 use Rattle.std.specs.Fmt.{digits, decimal, padded_integral, format_spec, digit_glyph}
 use Rattle.std.specs.Option.{MatchOption, SomeIff}
 use Rattle.std.specs.Str.Parse.{IsNumeral, digits_value}
-use Rattle.hex_text.specs.Digits.{AreGlyphs, padded_fixed, length-fixed_digits, value-fixed_digits, AllDigits-fixed_digits}
+use Rattle.can_frame.specs.Digits.{AreGlyphs, padded_fixed, length-fixed_digits, value-fixed_digits, AllDigits-fixed_digits}
 use Rattle.candump_line.specs.LineText.{decimal_digit, decimal_digits, micros_of_ticks, ticks_text, time_text, BeginsWithNoDigit, IsFraction}
 
 digit_value-decimal_digit : (d : ℕ) → d < 10 → digit_value (decimal_digit d) ≡ d

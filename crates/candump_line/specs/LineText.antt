@@ -6,7 +6,7 @@ use Rattle.std.specs.List.{flat_map}
 use Rattle.std.specs.Str.Parse.{AllDigits}
 use Rattle.can_frame.specs.FrameValue.{FrameValue}
 use Rattle.can_frame.specs.FrameText.{id_text}
-use Rattle.hex_text.specs.Hex.{fixed_digits, hex_digits}
+use Rattle.can_frame.specs.Hex.{fixed_digits, hex_digits}
 
 -- the digit of a number below 10
 abbrev pub decimal_digit : ℕ → ℕ

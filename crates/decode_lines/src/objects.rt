@@ -9,8 +9,7 @@ use frame_words::{Audience, data_group_name, write_line_words, write_message, wr
 use log_lines::LogFault;
 use name_field::Name;
 use parameter_group::ParameterGroup;
-use shop_texts::Texts;
-use signal_values::SignalGroup;
+use shop_texts::{SignalGroup, Texts};
 use std::alloc::{AllocError, Global};
 use trouble_code::Dtc;
 

@@ -3,7 +3,7 @@
 use crate::object_writer::ObjectWriter;
 use can_frame::Pgn;
 use dm_words::{AsciiText, Identification};
-use signal_values::{
+use shop_texts::{
     ByteDigits, Diagnostic, DiagnosticPart, DiagnosticPayload, MOST_ROWS, Meaning, SignalValue,
 };
 use std::alloc::Global;

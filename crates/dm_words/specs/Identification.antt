@@ -1,7 +1,7 @@
 -- Payloads that are text: which vehicle, which component, which unit it is (SAE J1939-71 and -73, from memory).
 use Rattle.std.specs.Prelude.{ℕ, ◌==◌, ◌&&◌, nat_lt, if◌then◌else◌, Option, None, Some, List, [], ◌∷◌, ◌++◌, length, take, drop, reverse, codes}
 use Rattle.std.specs.List.{flat_map}
-use Rattle.hex_text.specs.Hex.{hex_digits}
+use Rattle.can_frame.specs.Hex.{hex_digits}
 use Rattle.dm_words.specs.declared.identification.Identification.{Identification as AnyIdentification}
 use Rattle.dm_words.specs.declared.identification.Identification.TheVariants.{Vehicle, Component, Software, Unit}
 

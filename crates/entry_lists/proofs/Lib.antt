@@ -1,4 +1,5 @@
 pub mod Newer
-pub mod UnderNames
+pub mod Placing
 pub mod RowClaims
 pub mod RowLemmas
+pub mod UnderNames

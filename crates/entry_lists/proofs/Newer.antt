@@ -14,7 +14,7 @@ use Rattle.dm_messages.specs.declared.shown.Shown.{Shown}
 use Rattle.entry_lists.specs.Entries.{with_new}
 use Rattle.entry_lists.specs.Newest.{AreNewest, HasNewest, KeepsNewest, NewestKinds, NewestLists, NewestValue, newest_in, no_kinds, one_newer, with_newer, with_newest}
 use Rattle.entry_lists.specs.declared.entry.NewEntry.{NewEntry}
-use Rattle.name_map.proofs.Placing.{lookup-last}
+use Rattle.entry_lists.proofs.Placing.{lookup-last}
 
 -- of a list with one more the newest
 newest_more : {T : Type 0} (keep : ℕ) (v : T) (all kept : List T) → kept ≡ drop (length all - keep) all

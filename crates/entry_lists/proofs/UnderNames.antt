@@ -12,7 +12,7 @@ use Rattle.dm_messages.specs.declared.kind.Kind.TheVariants.{Dm1, Dm2, Dm6}
 use Rattle.dm_messages.specs.declared.shown.Shown.{Shown}
 use Rattle.entry_lists.specs.Entries.{HasAll, KindsValue, entries_of, entries_under, no_entries, put_under, with_entry, with_new}
 use Rattle.entry_lists.specs.declared.entry.NewEntry.{NewEntry}
-use Rattle.name_map.proofs.Placing.{lookup-last}
+use Rattle.entry_lists.proofs.Placing.{lookup-last}
 
 -- the lists of a NAME that had none begin with the entry
 pub begun : (rows new : List (ℕ × KindsValue)) (e : NewEntry) (kinds : KindsValue) → lookup (nat_eq e.name) rows ≡ None → kinds ≡ with_entry e.kind e.shown no_entries

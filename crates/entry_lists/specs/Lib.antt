@@ -1,4 +1,5 @@
 pub mod Entries
-pub mod Newest
 pub mod KeptValue
 pub mod KnownRows
+pub mod Newest
+pub mod Places

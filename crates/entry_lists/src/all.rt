@@ -3,12 +3,12 @@ ghost use Rattle.std.specs.Map.{lookup};
 ghost use Rattle.entry_lists.specs.Entries.{entries_under, put_under};
 ghost use Rattle.entry_lists.specs.declared.entry.NewEntry.{NewEntry as AnyEntry};
 
+use crate::NameMap;
 use crate::entry::NewEntry;
 use crate::kinds::KindEntries;
 use crate::lists::Lists;
 use dm_messages::{Kind, Shown};
 use name_field::Name;
-use name_map::NameMap;
 use std::alloc::{AllocError, Global};
 use std::marker::Model;
 

@@ -5,12 +5,12 @@ ghost use Rattle.dm_messages.specs.declared.kind.Kind.{Kind as AnyKind};
 ghost use Rattle.dm_messages.specs.declared.shown.Shown.{Shown as AnyShown};
 ghost use Rattle.entry_lists.specs.Newest.{HasNewest, KeepsNewest, newest_under, with_newer, no_kinds};
 
+use crate::NameMap;
 use crate::entry::NewEntry;
 use crate::lists::Lists;
 use crate::newest_list::NewestOfKinds;
 use dm_messages::{Kind, Shown};
 use name_field::Name;
-use name_map::NameMap;
 use std::alloc::{AllocError, Global};
 use std::marker::Model;
 

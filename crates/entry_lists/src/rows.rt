@@ -1,10 +1,10 @@
 ghost use Rattle.std.specs.Prelude.{◌≡◌, ℕ, [], length, map, take, slice_get, OnOk, OnErr};
 ghost use Rattle.std.specs.Option.{option_map};
 
+use crate::NameMap;
 use crate::kept::Kept;
 use crate::row::AckSeen;
 use name_field::Name;
-use name_map::NameMap;
 use std::alloc::{AllocError, Global};
 use std::marker::Model;
 

@@ -4,7 +4,7 @@ use crate::names::data_group_name;
 use can_frame::{GLOBAL_ADDRESS, Pgn};
 use dm_messages::ReadError;
 use dm_words::Identification;
-use signal_values::Diagnostic;
+use shop_texts::Diagnostic;
 use std::fmt;
 
 /// The name of a parameter group, or `-` where it has none here.

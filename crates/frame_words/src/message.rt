@@ -16,7 +16,7 @@ use name_field::{Name, NameFields};
 use parameter_group::ParameterGroup;
 use requests::Ack;
 use safe_text::TextBuffer;
-use signal_values::{Diagnostic, DiagnosticPayload};
+use shop_texts::{Diagnostic, DiagnosticPayload};
 use std::alloc::Global;
 use std::io;
 use std::io::Write;

@@ -24,7 +24,7 @@ pub(crate) fn live<
         + Files<File = File>
         + 'static,
 >(rt: &R, words: LiveArguments<'_>) -> Result<(), Failure> {
-    let gap = live_command::look_at_live_words(rt.alloc(), &words)?;
+    let gap = live_lines::look_at_live_words(rt.alloc(), &words)?;
     let Some(path) = words.file else {
         return Err(Failure::from(Fault::CommandLine));
     };
@@ -33,7 +33,7 @@ pub(crate) fn live<
         Some(path) => Some(open_orders(rt, path)?),
         None => None,
     };
-    live_command::live(
+    live_lines::live(
         rt,
         rt.alloc(),
         &words,

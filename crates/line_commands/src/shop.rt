@@ -1,7 +1,6 @@
 use picture::EarlierVisit;
 use program_io::{Failure, Fault};
-use shop_texts::{SheetFault, Texts, UnitTexts};
-use signal_values::Signals;
+use shop_texts::{SheetFault, Signals, Texts, UnitTexts};
 use std::alloc::Global;
 use watch_lines::read_visit;
 

@@ -1,6 +1,9 @@
-//! The units of a vehicle on a real bus: a line in, lines out.
+//! `live`: the units of a vehicle on a real bus, a line in, lines out, through two pipes; and `run`, which has anyone take part in
+//! one so.
 //!
-//! Nothing here has a clock or a thread: times are handed in, in microseconds.
+//! One thread reads the lines of the bus (`reading`), and where that is wanted another one reads what is asked; the caller's writes
+//! frames when they are due (`writing`). All that they do stands in modules without threads and without a clock: times are handed
+//! in, in microseconds.
 #![tactic(auto)]
 
 mod answering;
@@ -17,6 +20,11 @@ mod own_broadcast;
 mod own_groups;
 mod own_session;
 mod playback;
+mod playing;
+mod reading;
+mod shared;
+mod words;
+mod writing;
 
 pub use beginning::{Unheld, begin_with};
 pub use ear::{Ear, HeardFrame};
@@ -24,3 +32,7 @@ pub use fleet::{Fleet, ended_short};
 pub use member::Groups;
 pub use on_bus::{OnBus, Units};
 pub use playback::Playback;
+pub use words::{
+    BusWays, bus_of, gap_of, is_by_lines, look_at_live_words, number_of, pace_of, settle_of,
+};
+pub use writing::{live, run};

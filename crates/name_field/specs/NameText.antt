@@ -1,5 +1,5 @@
 use Rattle.std.specs.Prelude.{ℕ, List, []}
-use Rattle.hex_text.specs.Hex.{hex_digits, IsHexText}
+use Rattle.can_frame.specs.Hex.{hex_digits, IsHexText}
 
 -- a NAME as it is written: sixteen hexadecimal digits, in upper case
 abbrev pub name_text : ℕ → List ℕ

@@ -5,7 +5,7 @@
 ghost use Rattle.std.specs.Prelude.{◌≡◌, ℕ, ◌+◌, ◌*◌, ◌-◌, ◌^◌, ◌<◌, ◌↔◌, IsTrue, IfOk, IsOk, IsErrOf, Some};
 ghost use Rattle.name_field.specs.Fields.{IsInRange, fields_of, name_of_fields, high_half_of, low_half_of};
 ghost use Rattle.name_field.specs.NameText.{IsNameText, name_text};
-ghost use Rattle.hex_text.specs.Hex.{hex_value};
+ghost use Rattle.can_frame.specs.Hex.{hex_value};
 
 mod error;
 
@@ -136,7 +136,7 @@ impl Name {
         ensures bad_name { IsErrOf result NameError.BadName ↔ (IsNameText text.now → ⊥) }
         ensures reads_back { (n : ℕ) → n < 2 ^ 64 → text.now ≡ name_text n → result ≡ Ok n }
     {
-        match hex_text::read_hex(text, 16) {
+        match can_frame::read_hex(text, 16) {
             Some(number) => Ok(Name { number }),
             None => Err(NameError::BadName),
         }
@@ -147,7 +147,7 @@ impl Name {
 impl fmt::Display for Name {
     ghost output = { λ n. Some (name_text n) };
 
-    #[tactic(auto, using(hex_text::specs::Printed::padded_hex))]
+    #[tactic(auto, using(can_frame::specs::Printed::padded_hex))]
     fn fmt<W: fmt::Write>(&self, f: &mut fmt::Formatter<W>) -> fmt::Result {
         let number = self.number;
         write!(f, "{number:016X}")

@@ -4,7 +4,7 @@ use crate::series::{SeriesKey, SignalSeries};
 use crate::unit::DrawnUnit;
 use crate::value_range::ToldValue;
 use candump_line::Time;
-use signal_values::Signals;
+use shop_texts::Signals;
 use std::alloc::{AllocError, Global};
 use std::collections::BTreeMap;
 use trouble_code::Dtc;

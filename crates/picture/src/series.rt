@@ -1,13 +1,13 @@
 ghost use Rattle.std.specs.Prelude.{◌≡◌, ◌+ℤ◌, ◌*ℤ◌, IfSome};
-ghost use Rattle.signal_values.specs.Bits.{raw_of};
-ghost use Rattle.signal_values.specs.Presence.{IsThere};
-ghost use Rattle.signal_values.specs.Values.{bits_as_number, decimal_units, sense_of};
+ghost use Rattle.shop_texts.specs.Bits.{raw_of};
+ghost use Rattle.shop_texts.specs.Presence.{IsThere};
+ghost use Rattle.shop_texts.specs.Values.{bits_as_number, decimal_units, sense_of};
 
 use crate::curve::Curve;
 use crate::unit::DrawnUnit;
 use crate::value_range::{ToldValue, ValueRange};
 use can_frame::Pgn;
-use signal_values::{Decimal, Sense, Signal};
+use shop_texts::{Decimal, Sense, Signal};
 use std::alloc::{AllocError, Global};
 
 /// Whose signal it is, and which: from which address its group comes, and its place there.

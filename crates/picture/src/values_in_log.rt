@@ -5,7 +5,7 @@ use crate::unit::DrawnUnit;
 use crate::value_range::ToldValue;
 use can_frame::{Frame, Pgn};
 use candump_line::Time;
-use signal_values::{Signal, Signals};
+use shop_texts::{Signal, Signals};
 use std::alloc::{AllocError, Global};
 use std::collections::BTreeMap;
 use trouble_code::Dtc;

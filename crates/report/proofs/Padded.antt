@@ -4,8 +4,8 @@ use Rattle.std.proofs.lemmas.List.{append-nil}
 use Rattle.std.specs.Prelude.{replicate}
 use Rattle.std.specs.List.{repeat}
 use Rattle.std.specs.Fmt.{digits, decimal, padded_integral, format_spec, char_count}
-use Rattle.hex_text.specs.Hex.{hex_digits}
-use Rattle.hex_text.specs.Printed.{padded_hex}
+use Rattle.can_frame.specs.Hex.{hex_digits}
+use Rattle.can_frame.specs.Printed.{padded_hex}
 use Rattle.report.specs.Text.{right}
 
 spaces : (n : ℕ) → repeat {A = ℕ} n (32 ∷ []) ≡ replicate n 32

@@ -2,7 +2,7 @@
 use Rattle.std.specs.Prelude.{ℕ, List, [], ◌++◌, ◌-◌, length, map, replicate, Option, Some, None, codes}
 use Rattle.std.specs.List.{flat_map}
 use Rattle.std.specs.Fmt.{decimal}
-use Rattle.hex_text.specs.Hex.{hex_digits}
+use Rattle.can_frame.specs.Hex.{hex_digits}
 use Rattle.bus_model.specs.Heard.{missed_count, names_heard, unread_count}
 use Rattle.name_field.specs.NameText.{name_text}
 use Rattle.trouble_code.specs.LampBytes.{LampsValue}

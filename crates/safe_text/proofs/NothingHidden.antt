@@ -8,8 +8,8 @@ use Rattle.std.specs.Char.{encode_utf8}
 use Rattle.std.specs.Fmt.{digits, padded_integral, format_spec}
 use Rattle.std.specs.List.{flat_map, list_all}
 use Rattle.std.specs.Str.{NoCharPasses, chars}
-use Rattle.hex_text.specs.Hex.{hex_digit, hex_digits}
-use Rattle.hex_text.specs.Printed.{padded_hex}
+use Rattle.can_frame.specs.Hex.{hex_digit, hex_digits}
+use Rattle.can_frame.specs.Printed.{padded_hex}
 use Rattle.safe_text.specs.Seen.{is_hidden, is_hidden_in, is_plain, is_short, seen, seen_as}
 use Rattle.safe_text.specs.declared.seen.SeenForm.{SeenForm}
 use Rattle.safe_text.specs.declared.seen.SeenForm.TheVariants.{Line, Lines, Json}

@@ -3,7 +3,7 @@ use Rattle.std.specs.Prelude.{ℕ, Bool, false, ◌==◌, ◌&&◌, ◌||◌, no
 use Rattle.std.specs.List.{flat_map}
 use Rattle.std.specs.Char.{encode_utf8}
 use Rattle.std.specs.Str.{chars}
-use Rattle.hex_text.specs.Hex.{hex_digits}
+use Rattle.can_frame.specs.Hex.{hex_digits}
 use Rattle.safe_text.specs.declared.seen.SeenForm.{SeenForm}
 use Rattle.safe_text.specs.declared.seen.SeenForm.TheVariants.{Lines, Json}
 

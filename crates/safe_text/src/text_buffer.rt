@@ -5,7 +5,7 @@
 ghost use Rattle.std.specs.Prelude.{◌≡◌, ◌+◌, ◌*◌, ◌≤◌, ◌<◌, ◌↔◌, ◌/◌, ◌%◌, [], ◌∷◌, ◌++◌, length, IsTrue, OnOk};
 ghost use Rattle.std.specs.Io.KnownBytes.{Appends, Keeps, append_known};
 ghost use Rattle.std.specs.Fmt.{decimal};
-ghost use Rattle.hex_text.specs.Hex.{hex_digit, hex_digits};
+ghost use Rattle.can_frame.specs.Hex.{hex_digit, hex_digits};
 
 use arrayvec::ArrayVec;
 use std::io;

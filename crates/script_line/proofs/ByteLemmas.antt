@@ -8,7 +8,7 @@ use Rattle.std.proofs.lemmas.Bool.Decides.{nat_tests}
 use Rattle.std.proofs.lemmas.List.{length-append, length-drop, length-take, take-append-le, take_all, take_more_set}
 use Rattle.std.proofs.lemmas.List.Elements.{All-cons, All-head, All-nil, All-tail}
 use Rattle.std.proofs.lemmas.List.Sums.{passes_at_first, prefix_len-le-length}
-use Rattle.hex_text.specs.Hex.{IsHexText, hex_value}
+use Rattle.can_frame.specs.Hex.{IsHexText, hex_value}
 use Rattle.script_line.specs.Bytes.{EndsWord, KeepsBytes, SpellsByte}
 use Rattle.script_line.specs.Grammar.{all_bytes}
 use Rattle.script_line.specs.Line.{behind_word, first_word, from_word, is_space, script_words}

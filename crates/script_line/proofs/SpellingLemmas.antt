@@ -12,7 +12,7 @@ use Rattle.std.proofs.lemmas.List.{length-take-le, take_all}
 use Rattle.std.proofs.lemmas.List.Elements.{All-cons, All-head, All-nil, All-tail}
 use Rattle.std.proofs.lemmas.Slice.Eq.{bytes_eq-Decides}
 use Rattle.std.proofs.lemmas.Str.Parse.{IsNumeralModel, numerals_by_value, tells_all_ascii_digits}
-use Rattle.hex_text.specs.Hex.{IsHexText, hex_value}
+use Rattle.can_frame.specs.Hex.{IsHexText, hex_value}
 use Rattle.can_frame.specs.FrameValue.{FrameValue, frame}
 use Rattle.can_frame.specs.declared.frame.FrameError.{FrameError}
 use Rattle.can_frame.specs.declared.frame.FrameError.TheVariants.{IdTooLarge, TooLong}

@@ -9,7 +9,7 @@ use Rattle.can_frame.specs.declared.frame.FrameError.TheVariants.{IdTooLarge, To
 use Rattle.can_frame.specs.declared.pgn.PgnTooLarge.{PgnTooLarge}
 use Rattle.dm_messages.specs.declared.kind.Kind.{Kind}
 use Rattle.dm_messages.specs.declared.kind.Kind.TheVariants as kind
-use Rattle.hex_text.specs.Hex.{hex_value}
+use Rattle.can_frame.specs.Hex.{hex_value}
 use Rattle.name_field.specs.declared.error.NameError.{NameError}
 use Rattle.name_field.specs.declared.error.NameError.TheVariants.{BadName}
 use Rattle.trouble_code.specs.LampBytes.{LampsValue, lamps_value}

@@ -7,8 +7,7 @@ ghost use Rattle.script_line.specs.Spelled.{frame_spelled};
 
 use crate::command::FrameWords;
 use crate::words::Words;
-use can_frame::Frame;
-use hex_text::{digit_of, read_hex};
+use can_frame::{Frame, digit_of, read_hex};
 
 /// One byte more than a frame may have.
 const TOO_MANY: usize = 9;

@@ -1,11 +1,11 @@
 ghost use Rattle.std.specs.Prelude.{◌≡◌, ◌/◌, ◌%◌, ◌^◌, ◌↔◌, IfSome, IsSome};
 ghost use Rattle.std.specs.Option.{SomeIff};
-ghost use Rattle.hex_text.specs.Hex.{hex_value, IsHexText};
+ghost use Rattle.can_frame.specs.Hex.{hex_value, IsHexText};
 ghost use Rattle.trouble_code.specs.LampBytes.{lamps_value};
 ghost use Rattle.script_line.specs.Numbers.{decimal_value, IsNumberBelow};
 ghost use Rattle.script_line.specs.Spelled.{lamps_spelled, number_below};
 
-use hex_text::read_hex;
+use can_frame::read_hex;
 use trouble_code::Lamps;
 
 /// The number that decimal digits spell, below 2^32; `None` for any other word.

@@ -3,7 +3,7 @@ ghost use Rattle.script_line.specs.Reasons.{unfit_text};
 
 use crate::numbers::{read_lamps, read_number, read_small_number};
 use crate::words::Words;
-use hex_text::read_hex;
+use can_frame::read_hex;
 use std::fmt;
 
 /// What is wanted at a place of a command.

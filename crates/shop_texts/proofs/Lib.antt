@@ -1,2 +1,5 @@
+pub mod Bits
+pub mod Decimals
 pub mod Exact
 pub mod Index
+pub mod Products

@@ -18,7 +18,7 @@ use denote.Struct.Struct.{within}
 use denote.Struct.Owning.{shape}
 use Rattle.std.proofs.GlobalToken.{dealloc_token-Testable}
 use Rattle.std.specs.contracts.impls.GlobalAllocator.TheImpl.{ghosts}
-use Rattle.live_simulated.specs.contracts.simulated.LiveSimulated as post
+use Rattle.station_c.specs.contracts.simulated.LiveSimulated as post
 use Rattle.station_c.specs.Held.{heap}
 use Rattle.station_c.specs.HeldUnits.{boxed_unit, held_unit}
 use Rattle.station_c.specs.contracts.unit_handle.UnitHandle as handle

@@ -3,7 +3,7 @@ use base.Fml.{Fml, ftrue}
 use denote.RawPtr.{Ptr, block_ptr, null_ptr}
 use Rattle.std.specs.contracts.impls.GlobalAllocator.TheImpl.{ghosts}
 use Rattle.std_alloc.specs.Box.Ownership.{box_owns}
-use Rattle.live_simulated.specs.contracts.simulated.LiveSimulated.{the_row as Row}
+use Rattle.station_c.specs.contracts.simulated.LiveSimulated.{the_row as Row}
 use Rattle.station_c.specs.Held.{heap}
 
 -- the boxed unit at a pointer

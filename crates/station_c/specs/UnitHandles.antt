@@ -5,7 +5,7 @@ use Rattle.fault_memory.specs.Changes.{changed, Grows}
 use Rattle.fault_memory.specs.declared.change.FaultChange.{FaultChange}
 use Rattle.fault_memory.specs.declared.error.FaultError.{FaultError}
 use Rattle.live_unit.specs.declared.clock.UnitSettings.{UnitSettings}
-use Rattle.live_simulated.specs.Simulating.{ChangesMemory}
+use Rattle.station_c.specs.Simulating.{ChangesMemory}
 use Rattle.unit_trait.specs.declared.kind.UnitKind.{UnitKind}
 use Rattle.unit_trait.specs.declared.kind.UnitKind.TheVariants.{Plain, Guarded}
 use Rattle.station_c.specs.Held.{is_there}

@@ -1,11 +1,11 @@
 //! What a C program holds of its simulated unit.
 ghost use Rattle.std.specs.Prelude.{◌≡◌, ◌↔◌, true, false, not, IfSome, IsNone};
-ghost use Rattle.live_simulated.specs.Simulating.{SimulatedValue};
+ghost use Rattle.station_c.specs.Simulating.{SimulatedValue};
 ghost use Rattle.station_c.specs.Held.{is_there};
 ghost use Rattle.station_c.specs.HeldUnits.{held_unit};
 
+use crate::LiveSimulated;
 use crate::raw_box::RawBox;
-use live_simulated::LiveSimulated;
 use std::alloc::Global;
 use std::marker::{Model, Send};
 

@@ -4,9 +4,8 @@ ghost use Rattle.can_frame.specs.declared.address.TheConstants.{GREATEST_ADDRESS
 ghost use Rattle.tester_command.specs.Orders.{clearing_text, question_text};
 
 use crate::order::{Question, TestOrder, Whom};
-use can_frame::GREATEST_ADDRESS;
+use can_frame::{GREATEST_ADDRESS, read_hex};
 use dm_messages::Kind;
-use hex_text::read_hex;
 use live_station::Clearing;
 use name_field::Name;
 use script_line::{read_number, read_small_number};

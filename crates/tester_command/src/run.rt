@@ -74,7 +74,7 @@ pub fn tester<
     let ends = control.is_none() && !words.orders.is_empty();
     let reporter = reporter_of(alloc, &ways, report, has_table)?;
     let tester = Tester::new(alloc, &ways, words.orders, ends)?;
-    live_command::run(
+    live_lines::run(
         rt,
         alloc,
         Reported::new(tester, reporter),

@@ -3,7 +3,7 @@ ghost use Rattle.std.specs.Prelude.{◌≤◌, ◌<◌, IfOk};
 ghost use Rattle.can_frame.specs.declared.address.TheConstants.{GREATEST_ADDRESS};
 
 use crate::order_words::{OrderSlip, OrderWords, address_of};
-use live_command::{BusWays, bus_of, gap_of, is_by_lines, number_of, pace_of, settle_of};
+use live_lines::{BusWays, bus_of, gap_of, is_by_lines, number_of, pace_of, settle_of};
 use live_station::StationTimes;
 use name_field::Name;
 use program_io::{ArgumentError, Failure, Fault, TesterArguments};

@@ -3,7 +3,7 @@ use Rattle.std.specs.Prelude.{ℕ, ℤ, pos, ◌≡◌, ◌≢◌, ◌≤◌, Li
 use Rattle.std.specs.List.{IsAmong}
 use Rattle.can_frame.specs.declared.address.TheConstants.{GREATEST_ADDRESS}
 use Rattle.name_field.specs.NameText.{IsNameText}
-use Rattle.hex_text.specs.Hex.{hex_value}
+use Rattle.can_frame.specs.Hex.{hex_value}
 use Rattle.toml.specs.Data.{Data, Items, no_items, item, Members, no_members, member, get, as_integer, as_str, as_array, as_table}
 use Rattle.unit_trait.specs.declared.kind.UnitKind.{UnitKind}
 use Rattle.unit_trait.specs.declared.kind.UnitKind.TheVariants.{Plain, Guarded, Flicker}

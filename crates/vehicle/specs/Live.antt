@@ -1,7 +1,7 @@
 -- Which units a TOML document describes, as they take part in a real bus.
 use Rattle.std.specs.Prelude.{ℕ, ◌≡◌, ◌≢◌, ◌⊎◌, ◌/◌, ◌%◌, ◌≤◌, ◌<◌, Bool, true, false, List, [], ◌∷◌, ◌++◌, Option, Some, None, codes, length}
 use Rattle.std.specs.List.{All, AllPairs}
-use Rattle.hex_text.specs.Hex.{IsHexText, hex_value}
+use Rattle.can_frame.specs.Hex.{IsHexText, hex_value}
 use Rattle.toml.specs.Data.{Data, get, as_bool, as_str}
 use Rattle.script_line.specs.Numbers.{IsNumberBelow, SpellsNumber, decimal_value}
 use Rattle.unit_trait.specs.declared.kind.UnitKind.{UnitKind}

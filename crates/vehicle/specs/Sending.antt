@@ -3,7 +3,7 @@ use Rattle.std.specs.Prelude.{ℕ, ◌≡◌, ◌⊎◌, ◌-◌, ◌*◌, ◌�
 use Rattle.std.specs.Int.{to_be_bytes, w64}
 use Rattle.can_frame.specs.Fields.{pdu_format_of_pgn}
 use Rattle.can_frame.specs.declared.group_numbers.TheConstants.{DM1, DM2, DM3, DM6, DM11, COMMANDED_ADDRESS}
-use Rattle.hex_text.specs.Hex.{IsHexText, hex_value}
+use Rattle.can_frame.specs.Hex.{IsHexText, hex_value}
 use Rattle.toml.specs.Data.{Data, get}
 use Rattle.vehicle.specs.Holding.{HasNumber, text_at}
 use Rattle.vehicle.specs.declared.answer_line.TheConstants.{MOST_BYTES}

@@ -2,7 +2,7 @@ ghost use Rattle.std.specs.Prelude.{ℕ, ◌≡◌, ◌≢◌, ◌≤◌, ◌∷
 ghost use Rattle.std.specs.List.{IsAmong};
 ghost use Rattle.unit_trait.specs.declared.kind.UnitKind.TheVariants.{Flicker};
 ghost use Rattle.name_field.specs.NameText.{IsNameText};
-ghost use Rattle.hex_text.specs.Hex.{hex_value};
+ghost use Rattle.can_frame.specs.Hex.{hex_value};
 ghost use Rattle.toml.specs.Data.{Data, Members, get, table};
 ghost use Rattle.toml.specs.Parse.{parse_document};
 ghost use Rattle.toml.specs.View.{view, items_view};

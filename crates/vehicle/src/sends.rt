@@ -16,8 +16,7 @@ use crate::long_line::{CyclicLine, LongLine};
 use crate::read::{has_only, items_at, read_number, read_text};
 use crate::room::look_at_room;
 use crate::send_line::{GREATEST_PGN, LOWEST_PRIORITY, SendLine};
-use can_frame::Pgn;
-use hex_text::read_hex;
+use can_frame::{Pgn, read_hex};
 use std::alloc::{AllocError, Global};
 use toml::Value;
 

@@ -7,7 +7,7 @@ use log_lines::LogFault;
 use picture::{
     Brief, DrawnUnit, EverInLog, Occurrence, Picture, RunEnd, SignalsInLog, UnitLane, ValuesInLog,
 };
-use signal_values::Signals;
+use shop_texts::Signals;
 use std::alloc::{AllocError, Global};
 use watch_reports::{KINDS, WatchForm};
 

@@ -2,8 +2,7 @@ use bus_watch::{BusShown, Limits, WatchSettings};
 use candump_line::Time;
 use log_lines::ClockForm;
 use picture::EarlierVisit;
-use shop_texts::{Texts, UnitTexts};
-use signal_values::Signals;
+use shop_texts::{Signals, Texts, UnitTexts};
 use watch_reports::{Assumed, ReportOptions, WatchForm};
 
 /// How a log or a live bus is watched.

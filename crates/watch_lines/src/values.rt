@@ -9,7 +9,7 @@ use candump_line::{Line, Time};
 use dm_messages::Kind;
 use log_lines::LogFault;
 use picture::ValuesInLog;
-use signal_values::Signals;
+use shop_texts::Signals;
 use std::alloc::{AllocError, Global};
 
 /// Has the watches hear a line, and keeps the values that its frame has.

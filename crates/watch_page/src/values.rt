@@ -11,7 +11,7 @@ use picture::{
     value_of,
 };
 use safe_text::Page;
-use signal_values::Signal;
+use shop_texts::Signal;
 use std::io::Write;
 
 /// How large the page may be when a further signal is begun, in bytes, and how many signals are listed at most.

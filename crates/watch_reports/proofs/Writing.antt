@@ -5,8 +5,8 @@ use Rattle.std.proofs.lemmas.List.{append-nil}
 use Rattle.std.specs.Prelude.{codes}
 use Rattle.std.proofs.lemmas.List.Concat.{flat_map-append}
 use Rattle.std.specs.Fmt.{digits, padded_integral, format_spec}
-use Rattle.hex_text.specs.Hex.{hex_digits}
-use Rattle.hex_text.specs.Printed.{padded_hex}
+use Rattle.can_frame.specs.Hex.{hex_digits}
+use Rattle.can_frame.specs.Printed.{padded_hex}
 use Rattle.watch_reports.specs.CsvCells.{behind_commas}
 use Rattle.watch_reports.specs.Writing.{Wrote, WroteSome}
 use Rattle.watch_reports.specs.declared.report_writer.ReportWriter.{ReportWriter}

@@ -9,7 +9,7 @@ use Rattle.can_frame.specs.declared.address.TheConstants.{GLOBAL_ADDRESS}
 use Rattle.candump_line.specs.LineText.{time_text}
 use Rattle.dm_messages.specs.declared.kind.Kind.{Kind}
 use Rattle.dm_messages.specs.declared.kind.Kind.TheVariants.{Dm1, Dm2, Dm6}
-use Rattle.hex_text.specs.Hex.{hex_digits}
+use Rattle.can_frame.specs.Hex.{hex_digits}
 use Rattle.name_field.specs.Fields.{fields_of}
 use Rattle.name_field.specs.NameText.{name_text}
 use Rattle.trouble_code.specs.Code.{Code}

@@ -4,8 +4,7 @@ use bus_watch::Buses;
 use candump_line::Time;
 use log_lines::ClockForm;
 use picture::{EverInLog, SignalsInLog, SinceThen};
-use shop_texts::{Texts, UnitTexts};
-use signal_values::Signals;
+use shop_texts::{Signals, Texts, UnitTexts};
 
 /// How changes and reports are written.
 #[derive(Clone, Copy)]

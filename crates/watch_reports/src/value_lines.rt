@@ -9,7 +9,7 @@ use crate::units::{SourceWords, WhoWords};
 use log_lines::ClockForm;
 use picture::{SeriesKey, SignalSeries, ToldValue, ValueRange, value_of};
 use safe_text::Seen;
-use signal_values::Signal;
+use shop_texts::Signal;
 use std::io::Write;
 
 /// A line for each signal of each unit, and how many values are not kept.

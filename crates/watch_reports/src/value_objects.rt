@@ -5,7 +5,7 @@ use crate::options::Reported;
 use crate::report_writer::ReportWriter;
 use crate::reported_bus::who_of;
 use picture::{SeriesKey, SignalSeries, ToldValue, value_of};
-use signal_values::Signal;
+use shop_texts::Signal;
 use std::io::Write;
 
 /// An object for each signal of each unit, and how many values are not kept.

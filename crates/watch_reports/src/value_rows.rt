@@ -10,7 +10,7 @@ use crate::rows::write_words;
 use crate::units::address_of;
 use bus_watch::{BusWatch, Who};
 use picture::{SeriesKey, SignalSeries, ToldValue, value_of};
-use signal_values::Signal;
+use shop_texts::Signal;
 use std::io::Write;
 
 /// The names of the values of a signal, each behind a comma.

@@ -4,7 +4,7 @@ ghost use Rattle.can_frame.specs.Fields.{source_of};
 ghost use Rattle.can_frame.specs.FrameValue.{FrameValue, frame};
 ghost use Rattle.address_claim.specs.Frames.{claim_source};
 ghost use Rattle.live_unit.specs.Steps.{LacksRoomFor};
-ghost use Rattle.live_simulated.specs.Simulating.{HasHeardAs, HasNothingDue, Pulls};
+ghost use Rattle.station_c.specs.Simulating.{HasHeardAs, HasNothingDue, Pulls};
 ghost use Rattle.station_c.specs.Statuses.{Answers, DoneUnlessMemory};
 ghost use Rattle.station_c.specs.UnitHandles.{HoldsSameUnit, TellsFrame, has_unit};
 

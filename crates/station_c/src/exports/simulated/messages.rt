@@ -4,7 +4,7 @@ ghost use Rattle.dm_messages.specs.declared.kind.Kind.{Kind as AnyKind};
 ghost use Rattle.node_core.specs.NodeValue.{is_open};
 ghost use Rattle.live_unit.specs.Queue.{frames_waiting};
 ghost use Rattle.live_unit.specs.Steps.{BeginsToAll, CanPut};
-ghost use Rattle.live_simulated.specs.Simulating.{PutsMore, standing_of};
+ghost use Rattle.station_c.specs.Simulating.{PutsMore, standing_of};
 ghost use Rattle.station_c.specs.Records.{address_under, kind_numbered};
 ghost use Rattle.station_c.specs.Statuses.{Answers, DoneUnlessMemory};
 ghost use Rattle.station_c.specs.UnitHandles.{HoldsSameUnit, has_unit};

@@ -1,15 +1,15 @@
 //! A simulated unit is opened in a handle, and closed.
 ghost use Rattle.std.specs.Prelude.{◌≡◌, ◌⊎◌, ◌↔◌, ◌<◌, ◌≤◌, true, false};
 ghost use Rattle.can_frame.specs.declared.address.TheConstants.{GREATEST_ADDRESS};
-ghost use Rattle.live_simulated.specs.Simulating.{new_simulated};
+ghost use Rattle.station_c.specs.Simulating.{new_simulated};
 ghost use Rattle.station_c.specs.Statuses.{Answers, DoneUnlessMemory};
 ghost use Rattle.station_c.specs.UnitHandles.{HoldsSameUnit, are_in_range, has_unit, kind_told, settings_told};
 
+use crate::LiveSimulated;
 use crate::status::Status;
 use crate::unit_handle::UnitHandle;
 use crate::unit_records::UnitSettingsRecord;
 use can_frame::GREATEST_ADDRESS;
-use live_simulated::LiveSimulated;
 use name_field::Name;
 use std::alloc::Global;
 

@@ -10,7 +10,7 @@ use Rattle.std_alloc.proofs.SendSync.{lies, quiet}
 use Rattle.station_c.specs.Held.{heap}
 use Rattle.station_c.specs.HeldUnits.{held_unit}
 use Rattle.station_c.specs.contracts.unit_handle.UnitHandle as handle
-use Rattle.live_simulated.specs.contracts.simulated.LiveSimulated as unit
+use Rattle.station_c.specs.contracts.simulated.LiveSimulated as unit
 use Rattle.live_unit.specs.contracts.node.LiveNode as node
 use Rattle.live_unit.specs.contracts.queue.Queue as queue
 use Rattle.live_unit.specs.contracts.told.Told as told

@@ -14,7 +14,7 @@ use denote.RawPtr.{null_ptr}
 use denote.Steps.{nothing}
 use denote.Triple.Walked.{walk_of}
 use Rattle.std.proofs.raw_atomic.Walks.{proved_at, leaves}
-use Rattle.live_simulated.specs.Simulating.{SimulatedValue, new_simulated}
+use Rattle.station_c.specs.Simulating.{SimulatedValue, new_simulated}
 use Rattle.unit_trait.specs.declared.kind.UnitKind.TheVariants.{Plain}
 use Rattle.station_c.proofs.MachineValues.{both}
 use Rattle.station_c.proofs.UnitHandleValues.{handle_in}

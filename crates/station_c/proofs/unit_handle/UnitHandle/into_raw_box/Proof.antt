@@ -23,7 +23,7 @@ use Rattle.std.proofs.alloc.Calls.{Al, handle_tells}
 use Rattle.std.specs.contracts.alloc.Global as heap
 use Rattle.std.proofs.alloc.Global.TheLaws as heap_laws
 use Rattle.std.specs.contracts.impls.GlobalAllocator.TheImpl.{ghosts}
-use Rattle.live_simulated.specs.contracts.simulated.LiveSimulated as post
+use Rattle.station_c.specs.contracts.simulated.LiveSimulated as post
 use Rattle.station_c.specs.Held.{is_there}
 use Rattle.station_c.proofs.MachineValues.{both, raw_good, raw_in}
 use Rattle.station_c.proofs.UnitHandleValues.{Handle, handle_out}

@@ -21,7 +21,7 @@ use Rattle.std.proofs.raw_atomic.Walks.{proved_at, leaves}
 use Rattle.std.specs.contracts.alloc.Global as heap
 use Rattle.std.proofs.alloc.Global.TheLaws as heap_laws
 use Rattle.std.specs.contracts.impls.GlobalAllocator.TheImpl.{ghosts}
-use Rattle.live_simulated.specs.contracts.simulated.LiveSimulated as post
+use Rattle.station_c.specs.contracts.simulated.LiveSimulated as post
 use Rattle.station_c.proofs.MachineValues.{both, RawBox, raw_good, raw_out}
 use Rattle.station_c.proofs.UnitHandleValues.{handle_in}
 use Rattle.station_c.specs.contracts.unit_handle.UnitHandle.of.{ended, clauses}

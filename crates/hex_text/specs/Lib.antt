@@ -1,4 +1,0 @@
-pub mod Digits
-pub mod Hex
-pub mod Printed
-pub mod ReadBack

@@ -1,5 +1,0 @@
-use Rattle.std.proofs.Common.{length}
-use Rattle.signal_values.proofs.message_bits.text_at.Given as goal
-
-abbrev pub decreases-loop-last : goal.decreases-loop-last
-decreases-loop-last l = length l.text

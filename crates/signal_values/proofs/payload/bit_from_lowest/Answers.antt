@@ -1,9 +1,0 @@
-use Rattle.std.proofs.Common.{◌∙◌, ◌%◌, get_or, ◌/◌}
-use Rattle.std.proofs.lemmas.Nat.Bits.{shr_and_one}
-use Rattle.signal_values.proofs.Bits.{bit_of_first_lowest}
-use Rattle.signal_values.proofs.payload.bit_from_lowest.Goals as goal
-
-pub returns : goal.returns
-returns c =
-    shr_and_one (get_or c.args.bytes.now (c.args.at / 8) 0) (c.args.at % 8)
-    ∙ bit_of_first_lowest c.args.bytes.now c.args.at (λ i. (c.type_inv.bytes i).fits)

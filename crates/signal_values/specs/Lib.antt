@@ -1,5 +1,0 @@
-pub mod Bits
-pub mod Diagnostics
-pub mod Presence
-pub mod Rows
-pub mod Values
